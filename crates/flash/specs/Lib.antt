@@ -1,0 +1,6 @@
+pub mod Card
+pub mod Write
+pub mod History
+pub mod Device
+pub mod Runs
+pub mod Image
