@@ -1,2 +1,4 @@
 pub mod Linear
 pub mod Table
+pub mod Turns
+pub mod Logs

@@ -11,6 +11,7 @@ pub use reader::Entry;
 pub use reader::Item;
 pub use reader::LogReader;
 pub use reader::State;
+pub use reader::Survey;
 pub use revisions::Revision;
 pub use revisions::revisions_are_ordered;
 pub use tags::Role;

@@ -1,11 +1,12 @@
 // Reads a block's log tag by tag: whatever the block holds, the reader gives what the reading rule says.
+ghost use mathlib.Core.List.{[]};
 ghost use mathlib.Core.Path.{_≡_};
 ghost use Prim.Native.Nat.{_+_, _≤_};
 ghost use lib.ListN.{length};
 ghost use Rattle.std.specs.declared.option.Option.the-variants.{Some};
 ghost use Rattle.std.specs.Options.{Cases as BySome, mapped};
 ghost use Rattle.metalog.specs.Tag.{lengthOf};
-ghost use Rattle.metalog.specs.Log.{tagAt, closes, closing, holding, step, start, logOf, endOf};
+ghost use Rattle.metalog.specs.Log.{tagAt, closes, closing, holding, step, start, commitsOf, itemsOf, logOf, endOf};
 ghost use Rattle.metalog.specs.Reader.{wordOf, itemOf, cursorOf};
 use crate::checksum::SEED;
 use crate::checksum::crc;
@@ -141,5 +142,50 @@ impl<'a> LogReader<'a> {
         self.prior = tag.next_prior();
         self.state = State::Ended;
         Some(Item::Ended(self.at, self.prior))
+    }
+}
+
+// A log in four numbers: its revision, how many commits are finished, where the last of them ends, and what the tag
+// behind it is XORed with. All that writing behind the log takes; an empty log has the revision 0 and ends at 0.
+#[derive(Clone, Copy, PartialEq, Eq, Debug)]
+pub struct Survey {
+    pub revision: u32,
+    pub commits: usize,
+    pub end: usize,
+    pub prior: u32,
+}
+
+// The commits of a block and their end.
+fn count(block: &[u8]) -> (usize, usize, u32)
+    ensures commits { λ r. ⌜ r .0 ≡ length (commitsOf [] (itemsOf (now (block .entry)))) ⌝ }
+    ensures end { λ r. ⌜ record { offset = r .1; prior = r .2 } ≡ endOf (now (block .entry)) ⌝ }
+{
+    let mut reader = LogReader::new(block);
+    let mut commits = 0;
+    let mut end = 0;
+    let mut prior = 0xffff_ffff;
+    while let Some(item) = reader.next() {
+        match item {
+            Item::Held(_) => {}
+            Item::Ended(at, next) => {
+                commits += 1;
+                end = at;
+                prior = next;
+            }
+        }
+    }
+    (commits, end, prior)
+}
+
+impl Survey {
+    pub fn of(block: &[u8]) -> Survey
+        ensures revision { λ r. ⌜ r .revision ≡ logOf (now (block .entry)) .revision ⌝ }
+        ensures commits { λ r. ⌜ r .commits ≡ length (logOf (now (block .entry)) .commits) ⌝ }
+        ensures end { λ r. ⌜ r .end ≡ endOf (now (block .entry)) .offset ⌝ }
+        ensures prior { λ r. ⌜ r .prior ≡ endOf (now (block .entry)) .prior ⌝ }
+    {
+        let (commits, end, prior) = count(block);
+        let revision = if commits > 0 && block.len() >= 4 { little_endian(block, 0) } else { 0 };
+        Survey { revision, commits, end, prior }
     }
 }
