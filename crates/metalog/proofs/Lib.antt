@@ -2,3 +2,8 @@ pub mod Linear
 pub mod Table
 pub mod Turns
 pub mod Logs
+pub mod Words
+pub mod Views
+pub mod Paths
+pub mod Quiet
+pub mod Pieces
