@@ -7,3 +7,4 @@ pub mod Views
 pub mod Paths
 pub mod Quiet
 pub mod Pieces
+pub mod Commits

@@ -66,7 +66,7 @@ erased-past b i n k ys e h =
     ∙ sym (drop-drop (n - length ys) (length ys) (ys ++ replicate k 0xff)) ∙ ap (drop (n - length ys)) (drop-at ys (replicate k 0xff) (length ys) refl)
     ∙ drop-replicate (n - length ys) k 0xff
 
-take-past : (xs ys : List ℕ) (d : ℕ) → take (length xs + d) (xs ++ ys) ≡ xs ++ take d ys
+pub take-past : (xs ys : List ℕ) (d : ℕ) → take (length xs + d) (xs ++ ys) ≡ xs ++ take d ys
 take-past [] ys d = ap (λ n. take n ys) (zero-add d)
 take-past (x ∷ xs) ys d = ap (λ n. take n (x ∷ xs ++ ys)) (suc-add (length xs) d) ∙ ap (λ l. x ∷ l) (take-past xs ys d)
 
