@@ -19,7 +19,7 @@ use Rattle.metalog.specs.Commit.{Piece, Sound, tagOf, body, lastOf, ending, en
 use Rattle.metalog.proofs.Words.{crc-append, be32-left, be32-be4, twice}
 use Rattle.metalog.proofs.Views.{found, Found}
 use Rattle.metalog.proofs.Quiet.{Quiet, Single, AtMost, quiet-held, single-held, single-ended, quiet-behind, LastTag, quiet-plain, last-tag}
-use Rattle.metalog.proofs.Pieces.{readAs, tag-valid, tag-type, tag-length, tag-plain, top-plain, left-is, erased-past, take-past, piece-step, ending-length, close-step}
+use Rattle.metalog.proofs.Pieces.{readAs, tag-valid, tag-type, tag-length, tag-plain, top-plain, left-is, erased-past, take-past, piece-step, ending-length, closing-at, close-step}
 
 -- ---- a whole commit
 
@@ -36,7 +36,7 @@ whole [] b i prior sum pad word k s hp small hw right e =
     let left : drop (i + (4 + (4 + pad))) b ≡ replicate k 0xff = left-is b i (4 + (4 + pad)) front (replicate k 0xff) e long in
     let place : i + (4 + (4 + pad)) ≡ i + 4 + (4 + pad) = omega arith in
     let inside : i < length b = omega (arith, length-drop i b, ap length e) in
-    single-ended b (at i prior sum) (at (i + 4 + (4 + pad)) (ending pad) seed) i (i + 4 + (4 + pad)) (ending pad) (close-step b i prior sum pad word fill small hp hw room right e) inside
+    single-ended b (at i prior sum) (at (i + 4 + (4 + pad)) (ending pad) seed) i (closing-at i pad) (close-step b i prior sum pad word fill small hp hw room right e) inside
     (quiet-behind b (i + 4 + (4 + pad)) k (ending pad) seed (ap (λ n. drop n b) (sym place) ∙ left) (omega arith))
 whole (p ∷ ps) b i prior sum pad word k s hp small hw right e =
     let t = tagOf p in

@@ -8,3 +8,4 @@ pub mod Paths
 pub mod Quiet
 pub mod Pieces
 pub mod Commits
+pub mod Reading

@@ -2,15 +2,16 @@
 use mathlib.Core.Path.{_≡_, refl, sym, ap, subst, _∙_}
 use mathlib.Core.List.{List, [], _∷_, _++_, append-assoc, append-nil}
 use mathlib.Core.Logic.{_⊎_, inl, inr}
-use Prim.Native.Nat.{ℕ, zero, suc, _+_, _-_, _≤_, _<_}
+use Prim.Native.Nat.{ℕ, zero, suc, _+_, _-_, _*_, _%_, _^_, _≤_, _<_}
 use native.Mathlib.Nat.{suc-add, zero-add}
 use native.Mathlib.Omega.{arith}
 use lib.ListN.{length}
+use Rattle.std.proofs.shelf.Tests.{cond-both}
 use Rattle.std.specs.declared.option.Option.{Option}
 use Rattle.std.specs.declared.option.Option.the-variants.{Some, None}
 use Rattle.metalog.specs.Crc.{crcOf}
-use Rattle.metalog.specs.Tag.{lengthOf, nextPrior}
-use Rattle.metalog.specs.Log.{Entry, Item, held, ended, Cursor, at, nowhere, Step, End, part, past, seed, halt, holding, entryAt, step, items, commitsOf, endFrom}
+use Rattle.metalog.specs.Tag.{typeOf, lengthOf, endsCommit, nextPrior}
+use Rattle.metalog.specs.Log.{Entry, Item, held, ended, Cursor, at, nowhere, Step, End, part, past, seed, halt, holding, entryAt, endAt, step, items, commitsOf, endFrom}
 use Rattle.metalog.proofs.Turns.{items-some, items-none}
 use Rattle.metalog.proofs.Views.{View, stops, holds, ends, view, closed, found, Found, step-holds, step-ends, Same, same-tag, same-closes, same-holding}
 
@@ -53,6 +54,17 @@ path-far b (x ∷ xs) i prior sum e p s h = go (λ j q r k. path-far b xs j q r 
         let further = rest (past i t) (nextPrior t) seed (subst (λ (k : Step). Path b (k .next) xs (at e p s)) eq (h .1)) in
         omega (arith, further)
 
+-- and never past the block
+pub path-inside : (b : List ℕ) (xs : List Item) (i prior sum e p s : ℕ) → i ≤ length b → Path b (at i prior sum) xs (at e p s) → e ≤ length b
+path-inside b [] i prior sum e p s l h = let same : i ≡ e = cc in omega arith
+path-inside b (x ∷ xs) i prior sum e p s l h = go (λ j q r l k. path-inside b xs j q r e p s l k) (view b i prior sum)
+  where
+    go : ((j q r : ℕ) → j ≤ length b → Path b (at j q r) xs (at e p s) → e ≤ length b) → View b i prior sum → e ≤ length b
+    go rest (stops eq) = absurd (no-item b (at i prior sum) x eq (h .0))
+    go rest (holds t f plain eq) =
+        rest (past i t) (nextPrior t) (crcOf sum (part b i (4 + lengthOf t))) (found b i prior t f .fits) (subst (λ (k : Step). Path b (k .next) xs (at e p s)) eq (h .1))
+    go rest (ends t f last right eq) = rest (past i t) (nextPrior t) seed (found b i prior t f .fits) (subst (λ (k : Step). Path b (k .next) xs (at e p s)) eq (h .1))
+
 -- a block with the same first e bytes has the same path to e
 pub path-same : (b c : List ℕ) (e : ℕ) → Same e b c → (xs : List Item) (k : Cursor) (p s : ℕ) → Path b k xs (at e p s) → Path c k xs (at e p s)
 path-same b c e same [] k p s h = h
@@ -82,64 +94,67 @@ path-same b c e same (x ∷ xs) (at i prior sum) p s h = go (path-same b c e sam
 abbrev pub unfinished : List Entry → List Item → List Entry
 unfinished begun [] = begun
 unfinished begun (held e ∷ xs) = unfinished (begun ++ e ∷ []) xs
-unfinished begun (ended i p ∷ xs) = unfinished [] xs
+unfinished begun (ended e ∷ xs) = unfinished [] xs
 
 pub commits-join : (begun : List Entry) (xs ys : List Item) → commitsOf begun (xs ++ ys) ≡ commitsOf begun xs ++ commitsOf (unfinished begun xs) ys
 commits-join begun [] ys = refl
 commits-join begun (held e ∷ xs) ys = commits-join (begun ++ e ∷ []) xs ys
-commits-join begun (ended i p ∷ xs) ys = ap (λ l. begun ∷ l) (commits-join [] xs ys)
+commits-join begun (ended e ∷ xs) ys = ap (λ l. begun ∷ l) (commits-join [] xs ys)
 
 -- no commit is finished in the items
 pub record Unfinished (xs : List Item) : Type 0 where
   pub none : (begun : List Entry) → commitsOf begun xs ≡ []
   pub end : (e : End) → endFrom e xs ≡ e
 
--- the last finished commit of the items ends at i, and the path to there gives all finished commits
+-- the items have a last finished commit, and the path to its end gives all finished commits
 pub record Finished (b : List ℕ) (c : Cursor) (xs : List Item) : Type 0 where
   pub front : List Item
-  pub i : ℕ
-  pub p : ℕ
-  pub path : Path b c front (at i p seed)
+  pub last : End
+  pub path : Path b c front (at (last .offset) (last .prior) seed)
+  pub low : last .prior < 2 ^ 32
   pub nothing : (begun : List Entry) → unfinished begun front ≡ []
   pub same : (begun : List Entry) → commitsOf begun front ≡ commitsOf begun xs
-  pub end : (e : End) → endFrom e xs ≡ record { offset = i; prior = p }
+  pub end : (e : End) → endFrom e xs ≡ last
 
 -- one more tag in front
 before-held : (b : List ℕ) (c : Cursor) (x : Entry) (ys : List Item) → step b c .item ≡ Some (held x) → Unfinished ys ⊎ Finished b (step b c .next) ys → Unfinished (held x ∷ ys) ⊎ Finished b c (held x ∷ ys)
 before-held b c x ys e (inl u) = inl (record { none = λ begun. u .none (begun ++ x ∷ []); end = u .end })
 before-held b c x ys e (inr k) = inr (record {
   front = held x ∷ k .front;
-  i = k .i;
-  p = k .p;
+  last = k .last;
   path = (e, k .path);
+  low = k .low;
   nothing = λ begun. k .nothing (begun ++ x ∷ []);
   same = λ begun. k .same (begun ++ x ∷ []);
   end = k .end;
 })
 
 -- one more end of a commit in front
-before-ended : (b : List ℕ) (c : Cursor) (i p : ℕ) (ys : List Item) → step b c ≡ record { item = Some (ended i p); next = at i p seed } → Unfinished ys ⊎ Finished b (step b c .next) ys → Finished b c (ended i p ∷ ys)
-before-ended b c i p ys e (inl u) = record {
-  front = ended i p ∷ [];
-  i = i;
-  p = p;
+before-ended : (b : List ℕ) (c : Cursor) (x : End) (ys : List Item) → step b c ≡ record { item = Some (ended x); next = at (x .offset) (x .prior) seed } → x .prior < 2 ^ 32 → Unfinished ys ⊎ Finished b (step b c .next) ys → Finished b c (ended x ∷ ys)
+before-ended b c x ys e h (inl u) = record {
+  front = ended x ∷ [];
+  last = x;
   path = (ap (λ (s : Step). s .item) e, ap (λ (s : Step). s .next) e);
+  low = h;
   nothing = λ begun. refl;
   same = λ begun. ap (λ l. begun ∷ l) (sym (u .none []));
-  end = λ w. u .end (record { offset = i; prior = p });
+  end = λ w. u .end x;
 }
-before-ended b c i p ys e (inr k) = record {
-  front = ended i p ∷ k .front;
-  i = k .i;
-  p = k .p;
+before-ended b c x ys e h (inr k) = record {
+  front = ended x ∷ k .front;
+  last = k .last;
   path = (ap (λ (s : Step). s .item) e, k .path);
+  low = k .low;
   nothing = λ begun. k .nothing [];
   same = λ begun. ap (λ l. begun ∷ l) (k .same []);
-  end = λ w. k .end (record { offset = i; prior = p });
+  end = λ w. k .end x;
 }
 
 none-read : (b : List ℕ) (c : Cursor) (f : ℕ) → step b c ≡ halt → Unfinished (items f b c)
 none-read b c f e = subst Unfinished (sym (items-none f b c (ap (λ (s : Step). s .item) e))) (record { none = λ begun. refl; end = λ w. refl })
+
+next-low : (t : ℕ) → t < 2 ^ 31 → nextPrior t < 2 ^ 32
+next-low t h = cond-both (endsCommit t) (t % 2 ^ 31 + typeOf t % 2 * 2 ^ 31) t (λ x. x < 2 ^ 32) (λ _. omega arith) (λ _. omega arith)
 
 -- whatever is read, there is a last finished commit, or none
 pub tail : (f : ℕ) (b : List ℕ) (c : Cursor) → Unfinished (items f b c) ⊎ Finished b c (items f b c)
@@ -155,6 +170,6 @@ tail (suc f) b (at i prior sum) = go (tail f b (step b (at i prior sum) .next)) 
         subst (λ xs. Unfinished xs ⊎ Finished b (at i prior sum) xs) (sym (items-some f b (at i prior sum) (held (entryAt b i t)) item))
         (before-held b (at i prior sum) (entryAt b i t) (items f b (step b (at i prior sum) .next)) item rest)
     go rest (ends t g last right eq) =
-        let item : step b (at i prior sum) .item ≡ Some (ended (past i t) (nextPrior t)) = ap (λ (s : Step). s .item) eq in
-        inr (subst (Finished b (at i prior sum)) (sym (items-some f b (at i prior sum) (ended (past i t) (nextPrior t)) item))
-        (before-ended b (at i prior sum) (past i t) (nextPrior t) (items f b (step b (at i prior sum) .next)) eq rest))
+        let item : step b (at i prior sum) .item ≡ Some (ended (endAt i t)) = ap (λ (s : Step). s .item) eq in
+        inr (subst (Finished b (at i prior sum)) (sym (items-some f b (at i prior sum) (ended (endAt i t)) item))
+        (before-ended b (at i prior sum) (endAt i t) (items f b (step b (at i prior sum) .next)) eq (next-low t (found b i prior t g .valid)) rest))

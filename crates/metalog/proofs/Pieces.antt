@@ -17,7 +17,7 @@ use Rattle.std.specs.declared.option.Option.{Option}
 use Rattle.std.specs.declared.option.Option.the-variants.{Some, None}
 use Rattle.metalog.specs.Crc.{crcOf}
 use Rattle.metalog.specs.Tag.{typeOf, idOf, lengthOf, endsCommit, nextPrior, be32, le32, be4, le4}
-use Rattle.metalog.specs.Log.{Entry, Item, held, ended, Cursor, at, Step, part, past, seed, halt, holding, tagAt, entryAt, closes, step}
+use Rattle.metalog.specs.Log.{Entry, End, Item, held, ended, Cursor, at, Step, part, past, seed, halt, holding, tagAt, entryAt, closes, step}
 use Rattle.metalog.specs.Commit.{Piece, Sound, tagOf, body, lastOf, ending, entries}
 use Rattle.metalog.proofs.Words.{crc-append, crc-lt, be32-left, le32-left, be32-be4, le32-le4, be4-small, twice, tag-read}
 use Rattle.metalog.proofs.Views.{closed, found, Found, step-holds, step-ends}
@@ -97,15 +97,22 @@ ending-length pad h = omega arith
 ending-type : (pad : ℕ) → pad < 16 → typeOf (ending pad) ≡ 0x500
 ending-type pad h = omega arith
 
+ending-id : (pad : ℕ) → pad < 16 → idOf (ending pad) ≡ 0x3ff
+ending-id pad h = omega arith
+
 pub ending-ends : (pad : ℕ) → pad < 16 → endsCommit (ending pad) ≡ true
 ending-ends pad h = ap (λ k. cond (eqb k 0x500) true (eqb k 0x501)) (ending-type pad h)
 
 pub ending-prior : (pad : ℕ) → pad < 16 → nextPrior (ending pad) ≡ ending pad
 ending-prior pad h = cond-true (endsCommit (ending pad)) (ending pad % 2 ^ 31 + typeOf (ending pad) % 2 * 2 ^ 31) (ending pad) (ending-ends pad h) ∙ omega arith
 
+-- the end of a commit whose ending tag is at i
+abbrev pub closing-at : ℕ → ℕ → End
+closing-at i pad = record { offset = i + 4 + (4 + pad); prior = ending pad; tag = i; id = 0x3ff }
+
 pub close-step : (b : List ℕ) (i prior sum pad word : ℕ) (xs : List ℕ) → pad < 16 → prior < 2 ^ 32 → word < 2 ^ 32 → pad ≤ length xs → word ≡ crcOf sum (be4 (bitXor (ending pad) prior))
     → drop i b ≡ be4 (bitXor (ending pad) prior) ++ (le4 word ++ xs)
-    → step b (at i prior sum) ≡ record { item = Some (ended (i + 4 + (4 + pad)) (ending pad)); next = at (i + 4 + (4 + pad)) (ending pad) seed }
+    → step b (at i prior sum) ≡ record { item = Some (ended (closing-at i pad)); next = at (i + 4 + (4 + pad)) (ending pad) seed }
 unfolding closes
 close-step b i prior sum pad word xs small hp hw room right e =
     let t = ending pad in
@@ -117,5 +124,6 @@ close-step b i prior sum pad word xs small hp hw room right e =
     let good : closes b i sum t ≡ true = cond-true (leb 4 (lengthOf t)) (eqb (crcOf sum (part b i 4)) (le32 b (i + 4))) false (le-leb 4 (lengthOf t) (omega (arith, size))) ∙ eq-eqb (crcOf sum (part b i 4)) (le32 b (i + 4)) (covered ∙ sym stored) in
     let place : past i t ≡ i + 4 + (4 + pad) = ap (λ n. i + 4 + n) size in
     let same-prior = ending-prior pad small in
+    let id = ending-id pad small in
     step-ends b i prior sum t tag (ending-ends pad small) good
-    ∙ (λ k. record { item = Some (ended (place k) (same-prior k)); next = at (place k) (same-prior k) seed })
+    ∙ (λ k. record { item = Some (ended (record { offset = place k; prior = same-prior k; tag = i; id = id k })); next = at (place k) (same-prior k) seed })

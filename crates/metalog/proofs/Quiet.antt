@@ -15,7 +15,7 @@ use Rattle.std.specs.declared.option.Option.{Option}
 use Rattle.std.specs.declared.option.Option.the-variants.{Some, None}
 use Rattle.metalog.specs.Crc.{crcOf}
 use Rattle.metalog.specs.Tag.{typeOf, lengthOf, endsCommit, nextPrior, be32}
-use Rattle.metalog.specs.Log.{Entry, Item, held, ended, Cursor, at, nowhere, Step, part, past, seed, halt, holding, tagAt, entryAt, step, items, commitsOf}
+use Rattle.metalog.specs.Log.{Entry, End, Item, held, ended, Cursor, at, nowhere, Step, part, past, seed, halt, holding, tagAt, entryAt, endAt, step, items, commitsOf}
 use Rattle.metalog.proofs.Turns.{items-some, items-none}
 use Rattle.metalog.proofs.Words.{erased-word, erased-tag, high}
 use Rattle.metalog.proofs.Views.{View, stops, holds, ends, view, closed, found, Found, step-none}
@@ -54,12 +54,12 @@ single-held b c d i j x es e less inside q = record { one = go }
     go zero begun h = absurd (omega arith)
     go (suc f) begun h = ap (commitsOf begun) (unroll f b c d (held x) e) ∙ q .one f (begun ++ x ∷ []) (omega arith) ∙ ap (λ l. l ∷ []) (append-assoc begun (x ∷ []) es)
 
-pub single-ended : (b : List ℕ) (c d : Cursor) (i j p : ℕ) → step b c ≡ record { item = Some (ended j p); next = d } → i < length b → Quiet b d → Single b c i []
-single-ended b c d i j p e inside q = record { one = go }
+pub single-ended : (b : List ℕ) (c d : Cursor) (i : ℕ) (x : End) → step b c ≡ record { item = Some (ended x); next = d } → i < length b → Quiet b d → Single b c i []
+single-ended b c d i x e inside q = record { one = go }
   where
     go : (f : ℕ) (begun : List Entry) → length b ≤ f + i → commitsOf begun (items f b c) ≡ (begun ++ []) ∷ []
     go zero begun h = absurd (omega arith)
-    go (suc f) begun h = ap (commitsOf begun) (unroll f b c d (ended j p) e) ∙ ap (λ l. begun ∷ l) (q .none f []) ∙ ap (λ l. l ∷ []) (sym (append-nil begun))
+    go (suc f) begun h = ap (commitsOf begun) (unroll f b c d (ended x) e) ∙ ap (λ l. begun ∷ l) (q .none f []) ∙ ap (λ l. l ∷ []) (sym (append-nil begun))
 
 -- ---- erased bytes
 
@@ -67,7 +67,7 @@ single-ended b c d i j p e inside q = record { one = go }
 abbrev pub Calm : ℕ → Type 0
 Calm prior = bitXor 0xffffffff prior < 2 ^ 31 → endsCommit (bitXor 0xffffffff prior) ≡ false
 
-contrary : (v : Bool) → v ≡ true → v ≡ false → ⊥
+pub contrary : (v : Bool) → v ≡ true → v ≡ false → ⊥
 contrary v t f = let bad : _≡_ {A = ℕ} 0 1 = cc in omega arith
 
 -- behind a valid tag there is no tag at all
@@ -151,4 +151,4 @@ last-tag b i prior sum l = go (view b i prior sum)
     go (ends t f last right eq) =
         let h = l .behind t f in
         let fits = found b i prior t f .fits in
-        inr (single-ended b (at i prior sum) (at (past i t) (nextPrior t) seed) i (past i t) (nextPrior t) eq (omega (arith, fits)) (quiet-erased b (past i t) (h .0) (nextPrior t) seed (h .1) (calm-next t last)))
+        inr (single-ended b (at i prior sum) (at (past i t) (nextPrior t) seed) i (endAt i t) eq (omega (arith, fits)) (quiet-erased b (past i t) (h .0) (nextPrior t) seed (h .1) (calm-next t last)))

@@ -51,9 +51,9 @@ module _ (b : List ℕ) (c d : Cursor) (i j n : ℕ) (e : End) (s : Sofar b c i 
         last = sym (ap (endFrom e) more) ∙ s .last;
       }
 
-  pub after-ended : (at prior : ℕ) → Gave b c d i j (ended at prior) → Sofar b d j (n + 1) (record { offset = at; prior = prior })
-  after-ended at prior g =
-      let more = spent (ended at prior) g in
+  pub after-ended : (x : End) → Gave b c d i j (ended x) → Sofar b d j (n + 1) x
+  after-ended x g =
+      let more = spent (ended x) g in
       let count : n + suc (length (commitsOf [] (items (s .fuel - 1) b d))) ≡ length (commitsOf [] (itemsOf b)) = sym (ap (λ xs. n + length (commitsOf (s .begun) xs)) more) ∙ s .count in
       record {
         fuel = s .fuel - 1;

@@ -13,13 +13,13 @@ use Rattle.std.specs.declared.option.Option.{Option}
 use Rattle.std.specs.declared.option.Option.the-variants.{Some, None}
 use Rattle.metalog.specs.Crc.{crcOf}
 use Rattle.metalog.specs.Tag.{lengthOf, endsCommit, nextPrior, be32, le32}
-use Rattle.metalog.specs.Log.{Entry, Item, held, ended, Cursor, at, nowhere, Step, part, seed, tagAt, entryAt, past, closes, halt, holding, closing, stepWith, step}
+use Rattle.metalog.specs.Log.{Entry, Item, held, ended, Cursor, at, nowhere, Step, part, seed, tagAt, entryAt, endAt, past, closes, halt, holding, closing, stepWith, step}
 
 -- ---- the three ways of a step
 
 -- behind a tag that ended its commit
 abbrev pub closed : ℕ → ℕ → Step
-closed i t = record { item = Some (ended (past i t) (nextPrior t)); next = at (past i t) (nextPrior t) seed }
+closed i t = record { item = Some (ended (endAt i t)); next = at (past i t) (nextPrior t) seed }
 
 pub data View (b : List ℕ) (i prior sum : ℕ) : Type 0 where
   stops : step b (at i prior sum) ≡ halt → View b i prior sum

@@ -55,10 +55,10 @@ whole : (w : ℕ) → w < 2 ^ 32 → w % 2 ^ 32 ≡ w
 whole w h = omega arith
 
 -- a word is made of its bytes
-by-bytes : (w : ℕ) → w < 2 ^ 32 → w / 2 ^ 24 % 256 * 2 ^ 24 + w / 2 ^ 16 % 256 * 2 ^ 16 + w / 2 ^ 8 % 256 * 2 ^ 8 + w % 256 ≡ w
+pub by-bytes : (w : ℕ) → w < 2 ^ 32 → w / 2 ^ 24 % 256 * 2 ^ 24 + w / 2 ^ 16 % 256 * 2 ^ 16 + w / 2 ^ 8 % 256 * 2 ^ 8 + w % 256 ≡ w
 by-bytes w h = lines w (w / 2 ^ 24 % 256) (w / 2 ^ 16 % 256) (w / 2 ^ 8 % 256) (w % 256) (w % 2 ^ 24) (w % 2 ^ 16) 0 (sym (whole w h) ∙ mod-pow-add w 8 24) (mod-pow-add w 8 16) (mod-pow-add w 8 8)
 
-flip : (a b c d : ℕ) → a + b + c + d ≡ d + c + b + a
+pub flip : (a b c d : ℕ) → a + b + c + d ≡ d + c + b + a
 flip a b c d = omega arith
 
 pub be32-be4 : (w : ℕ) (xs : List ℕ) → w < 2 ^ 32 → be32 (be4 w ++ xs) 0 ≡ w

@@ -37,10 +37,17 @@ pub record Entry : Type 0 where
   pub offset : ℕ
   pub bytes : List ℕ
 
--- what one tag says: it belongs to the commit, or it ends the commit, at an offset, and the next tag is XORed with `prior`
+-- the end of a commit: where it ends, what the tag behind it is XORed with, and the offset and the id of the tag that ends it
+pub record End : Type 0 where
+  pub offset : ℕ
+  pub prior : ℕ
+  pub tag : ℕ
+  pub id : ℕ
+
+-- what one tag says: it belongs to the commit, or it ends the commit
 pub data Item : Type 0 where
   held : Entry → Item
-  ended : ℕ → ℕ → Item
+  ended : End → Item
 
 -- where the reading stands: the place of the next tag, what it is XORed with, and the checksum of the commit so far; or it has stopped
 pub data Cursor : Type 0 where
@@ -53,6 +60,9 @@ past i t = i + 4 + lengthOf t
 
 abbrev pub entryAt : List ℕ → ℕ → ℕ → Entry
 entryAt b i t = record { kind = typeOf t; id = idOf t; offset = i; bytes = part b (i + 4) (lengthOf t) }
+
+abbrev pub endAt : ℕ → ℕ → End
+endAt i t = record { offset = past i t; prior = nextPrior t; tag = i; id = idOf t }
 
 -- an ending tag's data begin with the checksum of the commit's stored bytes through that tag
 unfoldable pub closes : List ℕ → ℕ → ℕ → ℕ → Bool
@@ -72,7 +82,7 @@ holding b i sum t = record { item = Some (held (entryAt b i t)); next = at (past
 
 -- a tag that ends a commit, behind which the next commit begins
 unfoldable pub closing : List ℕ → ℕ → ℕ → ℕ → Step
-closing b i sum t = cond (closes b i sum t) (record { item = Some (ended (past i t) (nextPrior t)); next = at (past i t) (nextPrior t) seed }) halt
+closing b i sum t = cond (closes b i sum t) (record { item = Some (ended (endAt i t)); next = at (past i t) (nextPrior t) seed }) halt
 
 unfoldable pub stepWith : List ℕ → ℕ → ℕ → Option ℕ → Step
 stepWith b i sum None = halt
@@ -103,7 +113,7 @@ itemsOf b = items (length b) b (start b)
 abbrev pub commitsOf : List Entry → List Item → List (List Entry)
 commitsOf begun [] = []
 commitsOf begun (held e ∷ xs) = commitsOf (begun ++ e ∷ []) xs
-commitsOf begun (ended i prior ∷ xs) = begun ∷ commitsOf [] xs
+commitsOf begun (ended e ∷ xs) = begun ∷ commitsOf [] xs
 
 pub record Log : Type 0 where
   pub revision : ℕ
@@ -121,16 +131,15 @@ logOf b = logFrom (le32 b 0) (commitsOf [] (itemsOf b))
 abbrev pub emptyLog : Log
 emptyLog = record { revision = 0; commits = [] }
 
--- where the last finished commit ends, and what the tag behind it is XORed with
-pub record End : Type 0 where
-  pub offset : ℕ
-  pub prior : ℕ
-
+-- the end of the last finished commit, or e where none is finished
 abbrev pub endFrom : End → List Item → End
 endFrom e [] = e
 endFrom e (held x ∷ xs) = endFrom e xs
-endFrom e (ended i prior ∷ xs) = endFrom (record { offset = i; prior = prior }) xs
+endFrom e (ended x ∷ xs) = endFrom x xs
 
--- of a log with no finished commit: the offset 0
+-- an empty log ends at the offset 0
+abbrev pub noEnd : End
+noEnd = record { offset = 0; prior = firstPrior; tag = 0; id = 0x3ff }
+
 abbrev pub endOf : List ℕ → End
-endOf b = endFrom (record { offset = 0; prior = firstPrior }) (itemsOf b)
+endOf b = endFrom noEnd (itemsOf b)

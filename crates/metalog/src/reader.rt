@@ -7,7 +7,7 @@ ghost use Rattle.std.specs.declared.option.Option.the-variants.{Some};
 ghost use Rattle.std.specs.Options.{Cases as BySome, mapped};
 ghost use Rattle.metalog.specs.Tag.{lengthOf};
 ghost use Rattle.metalog.specs.Log.{tagAt, closes, closing, holding, step, start, commitsOf, itemsOf, logOf, endOf};
-ghost use Rattle.metalog.specs.Reader.{wordOf, itemOf, cursorOf};
+ghost use Rattle.metalog.specs.Reader.{wordOf, endFor, itemOf, cursorOf};
 use crate::checksum::SEED;
 use crate::checksum::crc;
 use crate::tags::Role;
@@ -24,13 +24,22 @@ pub struct Entry<'a> {
     pub data: &'a [u8],
 }
 
+// The end of a commit: where it ends, what the tag behind it is XORed with, and the offset and the id of the tag that ends it.
+#[derive(Clone, Copy, PartialEq, Eq, Debug)]
+pub struct End {
+    pub offset: usize,
+    pub prior: u32,
+    pub tag: usize,
+    pub id: u32,
+}
+
 // What a tag of the log says.
 #[derive(Clone, Copy)]
 pub enum Item<'a> {
     // It belongs to the commit.
     Held(Entry<'a>),
-    // It ends the commit, at this offset, and the next tag is XORed with this word.
-    Ended(usize, u32),
+    // It ends the commit.
+    Ended(End),
 }
 
 // Where a reader stands.
@@ -138,54 +147,56 @@ impl<'a> LogReader<'a> {
             self.state = State::Stopped;
             return None;
         }
-        self.at += 4 + tag.length();
-        self.prior = tag.next_prior();
+        let end = End {
+            offset: self.at + 4 + tag.length(),
+            prior: tag.next_prior(),
+            tag: self.at,
+            id: tag.id(),
+        };
+        self.at = end.offset;
+        self.prior = end.prior;
         self.state = State::Ended;
-        Some(Item::Ended(self.at, self.prior))
+        Some(Item::Ended(end))
     }
 }
 
-// A log in four numbers: its revision, how many commits are finished, where the last of them ends, and what the tag
-// behind it is XORed with. All that writing behind the log takes; an empty log has the revision 0 and ends at 0.
+// A log in short: its revision, how many commits are finished, and the end of the last of them. It is all that writing
+// behind the log takes. An empty log has the revision 0 and ends at the offset 0.
 #[derive(Clone, Copy, PartialEq, Eq, Debug)]
 pub struct Survey {
     pub revision: u32,
     pub commits: usize,
-    pub end: usize,
-    pub prior: u32,
+    pub end: End,
 }
 
-// The commits of a block and their end.
-fn count(block: &[u8]) -> (usize, usize, u32)
+// How many commits of a block are finished, and the end of the last of them.
+fn count(block: &[u8]) -> (usize, End)
     ensures commits { λ r. ⌜ r .0 ≡ length (commitsOf [] (itemsOf (now (block .entry)))) ⌝ }
-    ensures end { λ r. ⌜ record { offset = r .1; prior = r .2 } ≡ endOf (now (block .entry)) ⌝ }
+    ensures end { λ r. ⌜ endFor (r .1) ≡ endOf (now (block .entry)) ⌝ }
 {
     let mut reader = LogReader::new(block);
     let mut commits = 0;
-    let mut end = 0;
-    let mut prior = 0xffff_ffff;
+    let mut end = End { offset: 0, prior: 0xffff_ffff, tag: 0, id: 0x3ff };
     while let Some(item) = reader.next() {
         match item {
             Item::Held(_) => {}
-            Item::Ended(at, next) => {
+            Item::Ended(last) => {
                 commits += 1;
-                end = at;
-                prior = next;
+                end = last;
             }
         }
     }
-    (commits, end, prior)
+    (commits, end)
 }
 
 impl Survey {
     pub fn of(block: &[u8]) -> Survey
         ensures revision { λ r. ⌜ r .revision ≡ logOf (now (block .entry)) .revision ⌝ }
         ensures commits { λ r. ⌜ r .commits ≡ length (logOf (now (block .entry)) .commits) ⌝ }
-        ensures end { λ r. ⌜ r .end ≡ endOf (now (block .entry)) .offset ⌝ }
-        ensures prior { λ r. ⌜ r .prior ≡ endOf (now (block .entry)) .prior ⌝ }
+        ensures end { λ r. ⌜ endFor (r .end) ≡ endOf (now (block .entry)) ⌝ }
     {
-        let (commits, end, prior) = count(block);
+        let (commits, end) = count(block);
         let revision = if commits > 0 && block.len() >= 4 { little_endian(block, 0) } else { 0 };
-        Survey { revision, commits, end, prior }
+        Survey { revision, commits, end }
     }
 }

@@ -3,7 +3,7 @@ use mathlib.Core.List.{[]}
 use native.Mathlib.Omega.{arith}
 use lib.ListN.{length}
 use Rattle.std.specs.declared.option.Option.the-variants.{Some, None}
-use Rattle.metalog.specs.Log.{Item, step, items, commitsOf, endFrom, firstPrior}
+use Rattle.metalog.specs.Log.{Item, step, items, commitsOf, endFrom, noEnd}
 use Rattle.metalog.specs.Reader.{itemOf, cursorOf}
 use Rattle.metalog.proofs.Turns.{Sofar, Gave, after-held, after-ended, at-end}
 use Rattle.metalog.proofs.reader.count.Needs as need
@@ -19,7 +19,7 @@ loop-item-holds c =
       enough = omega arith;
       few = omega arith;
       count = omega (arith, ap (λ k. length (commitsOf [] (items (length b) b k))) at-start);
-      last = ap (λ k. endFrom (record { offset = 0; prior = firstPrior }) (items (length b) b k)) at-start;
+      last = ap (λ k. endFrom noEnd (items (length b) b k)) at-start;
     })
 
 -- what `next` told of the reader's block holds of the block
@@ -40,7 +40,7 @@ loop-item-again-in-Held c = (
 pub loop-item-again : need.loop-item-again
 loop-item-again c = (
   c .in-Some .ensures tt .block ∙ c .loop-item .inv .0,
-  after-ended _ _ _ _ _ _ _ (c .loop-item .inv .1) _ _ (gave (need.at·loop-item-again c .In-Some) _ (ap itemOf (c .in-Ended .is))),
+  after-ended _ _ _ _ _ _ _ (c .loop-item .inv .1) _ (gave (need.at·loop-item-again c .In-Some) _ (ap itemOf (c .in-Ended .is))),
 )
 
 pub returns : need.returns

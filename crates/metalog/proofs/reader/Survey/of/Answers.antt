@@ -5,7 +5,7 @@ use Prim.Native.Nat.{ℕ, _<_}
 use native.Mathlib.Omega.{arith}
 use lib.ListN.{length}
 use Rattle.metalog.specs.Tag.{le32}
-use Rattle.metalog.specs.Log.{Entry, Log, End, itemsOf, commitsOf, logFrom}
+use Rattle.metalog.specs.Log.{Entry, Log, itemsOf, commitsOf, logFrom}
 use Rattle.metalog.proofs.Logs.{log-some, log-none, log-commits, short-block}
 use Rattle.metalog.proofs.reader.Survey.of.Needs as need
 
@@ -18,8 +18,7 @@ returns-then-block-ge4 c =
     record {
       revision = c .little-endian-revision .ensures ∙ sym (ap (λ (l : Log). l .revision) (log-some (le32 b 0) cs some));
       commits = told .commits ∙ sym (ap length (log-commits (le32 b 0) cs));
-      end = ap (λ (e : End). e .offset) (told .end);
-      prior = ap (λ (e : End). e .prior) (told .end);
+      end = told .end;
     }
 
 pub returns-else-commits-gt0 : need.returns-else-commits-gt0
@@ -35,6 +34,5 @@ returns-else-commits-gt0 c =
     record {
       revision = sym (ap (λ (l : Log). l .revision) (log-none (le32 b 0) cs none));
       commits = told .commits ∙ sym (ap length (log-commits (le32 b 0) cs));
-      end = ap (λ (e : End). e .offset) (told .end);
-      prior = ap (λ (e : End). e .prior) (told .end);
+      end = told .end;
     }
