@@ -9,3 +9,5 @@ pub mod Quiet
 pub mod Pieces
 pub mod Commits
 pub mod Reading
+pub mod Puts
+pub mod Writes

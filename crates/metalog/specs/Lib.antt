@@ -3,6 +3,7 @@ pub mod Tag
 pub mod Log
 pub mod Reader
 pub mod Commit
+pub mod Writer
 pub mod Revision
 pub mod Laws
 pub mod Known

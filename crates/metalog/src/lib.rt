@@ -4,6 +4,7 @@ mod laws;
 mod reader;
 mod revisions;
 mod tags;
+mod writer;
 
 pub use checksum::SEED;
 pub use checksum::crc;
@@ -24,3 +25,5 @@ pub use revisions::Revision;
 pub use revisions::revisions_are_ordered;
 pub use tags::Role;
 pub use tags::Tag;
+pub use writer::CommitWriter;
+pub use writer::Unwritable;
