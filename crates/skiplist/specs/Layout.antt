@@ -1,0 +1,25 @@
+-- How a file lies in blocks of s bytes: block 0 is all content, and block i above 0 begins with words of four bytes, one more
+-- than i has zero bits at its end, and goes on with content. The content of the blocks, one after the other, is the file.
+use mathlib.Core.Path.{_≡_}
+use Prim.Native.Nat.{ℕ, zero, suc, _+_, _-_, _*_, _/_, _<_, _≤_}
+use lib.Count.{ones, trailingZeros}
+
+-- how many words block i begins with
+abbrev pub pointersOf : ℕ → ℕ
+pointersOf zero = 0
+pointersOf (suc i) = trailingZeros 32 (suc i) + 1
+
+-- how many bytes of block i are words
+abbrev pub headerOf : ℕ → ℕ
+headerOf i = 4 * pointersOf i
+
+-- the place of the first content byte of block n
+unfoldable pub startOf : ℕ → ℕ → ℕ
+startOf s zero = 0
+startOf s (suc n) = startOf s n + (s - headerOf n)
+
+-- the place p stands in block n, at the byte k of the block
+pub record Stands (s p n k : ℕ) : Type 0 where
+  pub after : startOf s n ≤ p
+  pub before : p < startOf s (suc n)
+  pub at : k ≡ headerOf n + (p - startOf s n)
