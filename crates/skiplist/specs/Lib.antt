@@ -1,2 +1,3 @@
 pub mod Sizes
 pub mod Layout
+pub mod Places

@@ -4,5 +4,8 @@
 mod layout;
 mod size;
 
+pub use layout::FILE_LIMIT;
+pub use layout::Location;
+pub use layout::locate;
 pub use layout::pointers;
 pub use size::BlockSize;

@@ -1,0 +1,4 @@
+pub mod Sizes
+pub mod Digits
+pub mod Starts
+pub mod Places

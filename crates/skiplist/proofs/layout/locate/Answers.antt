@@ -1,0 +1,36 @@
+-- The byte is what is left of the place behind all that stands before its block; the layout agrees with the formula.
+use mathlib.Core.Path.{_≡_}
+use Prim.Native.Nat.{_+_, _-_, _*_, _≤_}
+use native.Mathlib.Omega.{arith}
+use borrow.Author.Needs.{needs}
+use lib.Count.{ones}
+use Rattle.skiplist.specs.Sizes.{bytesOf}
+use Rattle.skiplist.specs.Places.{byteIn, byteOf}
+use Rattle.skiplist.proofs.Sizes.{bytes-least}
+use Rattle.skiplist.proofs.Places.{named-before-le, named-stands}
+use Rattle.skiplist.proofs.layout.locate.Needs as need
+
+before-le : (c : need.After-content) → c .content .result * c .block-of-block .result + 4 * ones (c .block-of-block .result) ≤ c .args .place
+before-le c =
+    named-before-le (bytesOf (c .args .size)) (c .args .place) (c .content .result) (c .block-of-block .result)
+    (bytes-least (c .args .size)) (omega arith) (c .content .ensures .is) (c .block-of-block .ensures .is)
+
+pub mul-byte-2 : need.mul-byte-2
+mul-byte-2 c = omega (arith, before-le c)
+
+pub sub-byte-2 : need.sub-byte-2
+sub-byte-2 c = omega (arith, before-le c)
+
+pub returns : need.returns
+returns c =
+    let s = bytesOf (c .args .size) in
+    let n = c .block-of-block .result in
+    let is-block = c .block-of-block .ensures .is in
+    let is-content = c .content .ensures .is in
+    let is-byte : c .args .place - c .content .result * n - 4 * ones n ≡ byteOf s (c .args .place) = cc in
+    record {
+      within = omega arith;
+      block = is-block;
+      byte = is-byte;
+      stands = named-stands s (c .args .place) n _ (bytes-least (c .args .size)) (omega arith) is-block is-byte;
+    }
