@@ -2,3 +2,4 @@ pub mod Sizes
 pub mod Digits
 pub mod Starts
 pub mod Places
+pub mod Extents

@@ -8,7 +8,7 @@ use lib.Count.{ones, ones-le, trailingZeros}
 use lib.Dec.{eqb}
 use Rattle.std.proofs.shelf.Tests.{cond-both, eqb-true, eqb-false}
 use Rattle.skiplist.specs.Layout.{startOf, Stands}
-use Rattle.skiplist.specs.Places.{fileLimit, contentOf, blockOf, byteIn, byteOf}
+use Rattle.skiplist.specs.Places.{fileLimit, blockLimit, contentOf, blockOf, byteIn, byteOf}
 use Rattle.skiplist.proofs.Digits.{ones-zero, ones-suc}
 use Rattle.skiplist.proofs.Starts.{start-zero, start-formula}
 
@@ -51,6 +51,20 @@ module _ (b p : ℕ) (lo : 504 ≤ b) (hi : p < fileLimit) (some : p / b ≡ 0 �
   -- what stands before the block does not reach past the place
   pub before-le : b * (lessened / b) + 4 * ones (lessened / b) ≤ p
   before-le = omega (arith, words-le, ones-near, div-mul-le-self lessened b, mul-comm b (lessened / b))
+
+-- the block of a place, by the formula, is one of the first blocks
+pub block-lt : (s p : ℕ) → 512 ≤ s → p < fileLimit → blockOf s p < blockLimit
+block-lt s p lo hi =
+    cond-both (eqb (p / contentOf s) 0) 0 ((p - 4 * (ones (p / contentOf s - 1) + 2)) / contentOf s)
+    (λ n. n < blockLimit)
+    (λ e. omega arith)
+    (λ e.
+    let some = eqb-false (p / contentOf s) 0 e in
+    let lb : 504 ≤ contentOf s = omega arith in
+    ⊎-elim
+    (λ t. omega (arith, t, guess-lt (contentOf s) p lb hi some))
+    (λ t. omega (arith, t, guess-lt (contentOf s) p lb hi some))
+    (guess-near (contentOf s) p lb hi some))
 
 -- what stands before the block of a place, by the formula, does not reach past the place
 pub block-before-le : (s p : ℕ) → 512 ≤ s → p < fileLimit → contentOf s * blockOf s p + 4 * ones (blockOf s p) ≤ p

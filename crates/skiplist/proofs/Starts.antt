@@ -2,9 +2,11 @@
 use mathlib.Core.Path.{_≡_, refl, sym, _∙_, ap}
 use mathlib.Core.Logic.{_⊎_, inl, inr, ⊎-elim}
 use Prim.Native.Nat.{ℕ, zero, suc, _+_, _-_, _*_, _^_, _<_, _≤_}
-use native.Mathlib.Nat.{mul-suc}
+use native.Mathlib.Nat.{le-refl, mul-suc}
+use native.Mathlib.Decide.{le-ind}
 use native.Mathlib.Omega.{arith}
 use lib.Count.{ones, trailingZeros, trailing-le}
+use Rattle.std.proofs.shelf.Tests.{cases-order}
 use Rattle.skiplist.specs.Layout.{pointersOf, headerOf, startOf, Stands}
 use Rattle.skiplist.proofs.Digits.{ones-zero, ones-suc}
 
@@ -34,3 +36,23 @@ start-formula s (suc m) lo hi =
       trailing-le 32 (suc m),
       mul-suc (s - 8) (suc m),
     )
+
+-- the blocks begin in their order
+pub start-le : (s m n : ℕ) → m ≤ n → startOf s m ≤ startOf s n
+start-le s m n h = le-ind (λ (k : ℕ). startOf s m ≤ startOf s k) (le-refl (startOf s m)) (λ k _ le. omega (arith, start-suc s k)) n h
+
+-- a block that begins behind a place does not hold it
+stands-not-above : (s p n k n′ k′ : ℕ) → Stands s p n k → Stands s p n′ k′ → n < n′ → ⊥
+stands-not-above s p n k n′ k′ here there l = omega (arith, start-le s (suc n) n′ l, here .before, there .after)
+
+-- a block that holds a place is the only one, and the place has one byte in it
+pub stands-once : (s p n k n′ k′ : ℕ) → Stands s p n k → Stands s p n′ k′ → (n ≡ n′) × (k ≡ k′)
+stands-once s p n k n′ k′ here there =
+    ⊎-elim
+    (λ e. (e, here .at ∙ ap (λ (x : ℕ). headerOf x + (p - startOf s x)) e ∙ sym (there .at)))
+    (⊎-elim (λ l. absurd (stands-not-above s p n k n′ k′ here there l)) (λ l. absurd (stands-not-above s p n′ k′ n k there here l)))
+    (cases-order n n′)
+
+-- a byte at which a place stands is a byte of the block
+pub stands-inside : (s p n k : ℕ) → 512 ≤ s → Stands s p n k → k < s
+stands-inside s p n k lo at = omega (arith, header-le n, start-suc s n, at .after, at .before, at .at)

@@ -41,8 +41,38 @@ pub record Located (s p : ℕ) (l : Location) : Type 0 where
   pub block : l .block ≡ blockOf s p
   pub byte : l .byte ≡ byteOf s p
   pub stands : Stands s p (l .block) (l .byte)
+  pub few : l .block < blockLimit
+  pub inside : l .byte < s
 
 -- the answer to a question for a place: its location, or none since no file has such a place
 abbrev pub Locates : ℕ → ℕ → Option Location → Type 0
 Locates s p (Some l) = Located s p l
 Locates s p None = fileLimit ≤ p
+
+-- the place of the first content byte of block n, by the closed formula
+abbrev pub firstOf : ℕ → ℕ → ℕ
+firstOf s zero = 0
+firstOf s (suc n) = contentOf s * suc n + 8 + 4 * ones n
+
+-- the content of block n begins at the place p, by the layout and by the formula
+pub record Begins (s n p : ℕ) : Type 0 where
+  pub within : n < blockLimit
+  pub layout : p ≡ startOf s n
+  pub formula : p ≡ firstOf s n
+
+-- the answer to a question for the first place of a block: the place, or none since no file has such a block
+abbrev pub FirstPlace : ℕ → ℕ → Option ℕ → Type 0
+FirstPlace s n (Some p) = Begins s n p
+FirstPlace s n None = blockLimit ≤ n
+
+-- n is the least number of blocks that hold so many bytes; its last block, if there is one, holds some of them
+pub record Needed (s bytes n : ℕ) : Type 0 where
+  pub within : bytes ≤ fileLimit
+  pub enough : bytes ≤ startOf s n
+  pub least : (m : ℕ) → bytes ≤ startOf s m → n ≤ m
+  pub last : (n ≡ 0) ⊎ (startOf s (n - 1) < bytes)
+
+-- the answer to a question for the blocks of a file: their number, or none since no file has so many bytes
+abbrev pub BlocksFor : ℕ → ℕ → Option ℕ → Type 0
+BlocksFor s bytes (Some n) = Needed s bytes n
+BlocksFor s bytes None = fileLimit < bytes

@@ -5,11 +5,14 @@ ghost use Prim.Native.Nat.{_+_, _*_, _<_, _≤_};
 ghost use lib.Count.{ones};
 ghost use Rattle.skiplist.specs.Sizes.{bytesOf};
 ghost use Rattle.skiplist.specs.Layout.{pointersOf};
-ghost use Rattle.skiplist.specs.Places.{fileLimit, contentOf, blockOf, Locates};
+ghost use Rattle.skiplist.specs.Places.{fileLimit, contentOf, blockOf, Locates, FirstPlace, BlocksFor};
 use crate::size::BlockSize;
 
 // How many bytes a file has at most.
 pub const FILE_LIMIT: u32 = 1_048_576;
+
+// How many blocks a file has at most, rounded up to a power of two.
+pub const BLOCK_LIMIT: u32 = 4096;
 
 // Where a place of a file stands: the block, and the byte in it.
 #[derive(Clone, Copy, PartialEq, Eq, Debug)]
@@ -61,4 +64,29 @@ pub fn locate(size: BlockSize, place: u32) -> Option<Location>
     let block = block_of(size, place);
     let byte = place - content(size) * block - 4 * block.count_ones();
     Some(Location { block, byte })
+}
+
+// The place of the first content byte of a block; None where no file has such a block.
+pub fn first_place(size: BlockSize, block: u32) -> Option<u32>
+    ensures { λ r. ⌜ FirstPlace (bytesOf size) block r ⌝ }
+{
+    if block >= BLOCK_LIMIT {
+        return None;
+    }
+    if block == 0 {
+        return Some(0);
+    }
+    Some(content(size) * block + 8 + 4 * (block - 1).count_ones())
+}
+
+// How many blocks a file of so many bytes has: as many as are there up to the one in which its last byte stands.
+// None where no file has so many bytes.
+pub fn blocks_for(size: BlockSize, bytes: u32) -> Option<u32>
+    ensures { λ r. ⌜ BlocksFor (bytesOf size) bytes r ⌝ }
+{
+    if bytes == 0 {
+        return Some(0);
+    }
+    let last = locate(size, bytes - 1)?;
+    Some(last.block + 1)
 }

@@ -4,8 +4,11 @@
 mod layout;
 mod size;
 
+pub use layout::BLOCK_LIMIT;
 pub use layout::FILE_LIMIT;
 pub use layout::Location;
+pub use layout::blocks_for;
+pub use layout::first_place;
 pub use layout::locate;
 pub use layout::pointers;
 pub use size::BlockSize;

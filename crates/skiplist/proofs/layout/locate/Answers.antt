@@ -7,7 +7,8 @@ use lib.Count.{ones}
 use Rattle.skiplist.specs.Sizes.{bytesOf}
 use Rattle.skiplist.specs.Places.{byteIn, byteOf}
 use Rattle.skiplist.proofs.Sizes.{bytes-least}
-use Rattle.skiplist.proofs.Places.{named-before-le, named-stands}
+use Rattle.skiplist.proofs.Starts.{stands-inside}
+use Rattle.skiplist.proofs.Places.{block-lt, named-before-le, named-stands}
 use Rattle.skiplist.proofs.layout.locate.Needs as need
 
 before-le : (c : need.After-content) → c .content .result * c .block-of-block .result + 4 * ones (c .block-of-block .result) ≤ c .args .place
@@ -28,9 +29,12 @@ returns c =
     let is-block = c .block-of-block .ensures .is in
     let is-content = c .content .ensures .is in
     let is-byte : c .args .place - c .content .result * n - 4 * ones n ≡ byteOf s (c .args .place) = cc in
+    let stand = named-stands s (c .args .place) n _ (bytes-least (c .args .size)) (omega arith) is-block is-byte in
     record {
       within = omega arith;
       block = is-block;
       byte = is-byte;
-      stands = named-stands s (c .args .place) n _ (bytes-least (c .args .size)) (omega arith) is-block is-byte;
+      stands = stand;
+      few = omega (arith, is-block, block-lt s (c .args .place) (bytes-least (c .args .size)) (omega arith));
+      inside = stands-inside s (c .args .place) n _ (bytes-least (c .args .size)) stand;
     }
