@@ -3,3 +3,4 @@ pub mod Digits
 pub mod Starts
 pub mod Places
 pub mod Extents
+pub mod Strides

@@ -3,6 +3,7 @@
 // Arithmetic only: a layer above reads the blocks.
 mod layout;
 mod size;
+mod walk;
 
 pub use layout::BLOCK_LIMIT;
 pub use layout::FILE_LIMIT;
@@ -12,3 +13,4 @@ pub use layout::first_place;
 pub use layout::locate;
 pub use layout::pointers;
 pub use size::BlockSize;
+pub use walk::stride;
