@@ -4,3 +4,5 @@ pub mod Starts
 pub mod Places
 pub mod Extents
 pub mod Strides
+pub mod Following
+pub mod Points

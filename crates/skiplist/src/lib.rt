@@ -1,10 +1,14 @@
 // Where the bytes of a file stand in its blocks, and how its blocks are reached from its last one.
 // A file is a skip list: block 0 is all content, and any other block begins with words that name blocks before it.
 // Arithmetic only: a layer above reads the blocks.
+mod laws;
 mod layout;
 mod size;
 mod walk;
 
+pub use laws::known_places;
+pub use laws::one_location;
+pub use laws::places_follow;
 pub use layout::BLOCK_LIMIT;
 pub use layout::FILE_LIMIT;
 pub use layout::Location;

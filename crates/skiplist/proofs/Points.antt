@@ -1,0 +1,22 @@
+-- The known points, computed.
+use mathlib.Core.Path.{_≡_, refl}
+use Prim.Native.Nat.{ℕ}
+use lib.Count.{ones, onesIn, trailingZeros}
+use lib.Dec.{lit<, lit≤}
+use Rattle.skiplist.specs.Layout.{pointersOf, startOf, Stands}
+use Rattle.skiplist.specs.Places.{blockOf, byteOf}
+use Rattle.skiplist.specs.Laws.{Known, KnownPlaces}
+
+pub known-points : KnownPlaces
+unfolding ones onesIn trailingZeros startOf
+known-points = record {
+  last-of-zero = record { block = refl; byte = refl; stands = record { after = lit≤ tt; before = lit< tt; at = refl } };
+  first-of-one = record { block = refl; byte = refl; stands = record { after = lit≤ tt; before = lit< tt; at = refl } };
+  first-of-two = record { block = refl; byte = refl; stands = record { after = lit≤ tt; before = lit< tt; at = refl } };
+  words-of-zero = refl;
+  words-of-one = refl;
+  words-of-two = refl;
+  words-of-three = refl;
+  words-of-four = refl;
+  words-of-eight = refl;
+}

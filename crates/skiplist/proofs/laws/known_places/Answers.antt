@@ -1,0 +1,7 @@
+-- The known points are computed.
+use borrow.Author.Needs.{needs}
+use Rattle.skiplist.proofs.Points.{known-points}
+use Rattle.skiplist.proofs.laws.known_places.Needs as need
+
+pub returns : need.returns
+returns c = record { nothing = search needs; law = known-points }
