@@ -4,4 +4,4 @@ use Rattle.skiplist.proofs.Points.{known-points}
 use Rattle.skiplist.proofs.laws.known_places.Needs as need
 
 pub returns : need.returns
-returns c = record { nothing = search needs; law = known-points }
+returns c = record { points = search needs; law = known-points }

@@ -4,4 +4,4 @@ use Rattle.skiplist.proofs.Starts.{stands-once}
 use Rattle.skiplist.proofs.laws.one_location.Needs as need
 
 pub returns : need.returns
-returns c = record { nothing = search needs; law = stands-once }
+returns c = record { locations = search needs; law = stands-once }

@@ -4,4 +4,4 @@ use Rattle.skiplist.proofs.Following.{formula-follows}
 use Rattle.skiplist.proofs.laws.places_follow.Needs as need
 
 pub returns : need.returns
-returns c = record { nothing = search needs; law = formula-follows }
+returns c = record { first = search needs; law = formula-follows }
