@@ -6,3 +6,4 @@ pub mod Extents
 pub mod Strides
 pub mod Following
 pub mod Points
+pub mod Words

@@ -8,11 +8,7 @@ use lib.Pow.{pow-pos, pow-mono}
 use Rattle.std.proofs.shelf.Tests.{cases-lt}
 use Rattle.skiplist.specs.Layout.{pointersOf}
 use Rattle.skiplist.specs.Strides.{Stride}
-
--- a block above 0 has one word more than its number has zeros at its end
-pub pointers-later : (i : ℕ) → 0 < i → pointersOf i ≡ trailingZeros 32 i + 1
-pointers-later zero h = omega arith
-pointers-later (suc i) h = refl
+use Rattle.skiplist.proofs.Words.{pointers-later}
 
 -- a power of two that is at most d is at most the one of d's highest digit
 pub power-le-top : (d j m : ℕ) → d < 2 ^ suc j → 2 ^ m ≤ d → m ≤ j

@@ -4,7 +4,7 @@ ghost use mathlib.Core.Path.{_≡_};
 ghost use Prim.Native.Nat.{_+_, _*_, _<_, _≤_};
 ghost use lib.Count.{ones};
 ghost use Rattle.skiplist.specs.Sizes.{bytesOf};
-ghost use Rattle.skiplist.specs.Layout.{pointersOf};
+ghost use Rattle.skiplist.specs.Layout.{pointersOf, Words};
 ghost use Rattle.skiplist.specs.Places.{fileLimit, contentOf, blockOf, Locates, FirstPlace, BlocksFor};
 use crate::size::BlockSize;
 
@@ -23,7 +23,8 @@ pub struct Location {
 
 // How many words block `index` of a file begins with.
 pub fn pointers(index: u32) -> u32
-    ensures { λ r. ⌜ r ≡ pointersOf index ⌝ }
+    ensures is { λ r. ⌜ r ≡ pointersOf index ⌝ }
+    ensures words { λ r. ⌜ Words index r ⌝ }
 {
     if index == 0 {
         0
