@@ -1,34 +1,16 @@
 -- Places follow one another: the next place stands at the next byte of the block, or at the first content byte of the next.
-use mathlib.Core.Path.{_≡_, refl, sym, _∙_, ap}
-use mathlib.Core.Logic.{_⊎_, inl, inr, ⊎-elim}
-use Prim.Native.Nat.{ℕ, suc, _+_, _-_, _<_, _≤_}
+use mathlib.Core.Path.{_≡_, refl, _∙_, ap}
+use mathlib.Core.Logic.{inl, inr, ⊎-elim}
+use Prim.Native.Nat.{ℕ, suc, _+_, _<_, _≤_}
 use native.Mathlib.Omega.{arith}
 use Rattle.std.proofs.shelf.Tests.{cases-lt}
 use Rattle.skiplist.specs.Sizes.{bytesOf}
 use Rattle.skiplist.specs.Layout.{headerOf, startOf, Stands}
 use Rattle.skiplist.specs.Places.{fileLimit, blockOf, byteOf}
 use Rattle.skiplist.specs.Laws.{Follows, PlacesFollow}
-use Rattle.skiplist.specs.declared.size.BlockSize.{BlockSize}
 use Rattle.skiplist.proofs.Sizes.{bytes-least}
-use Rattle.skiplist.proofs.Starts.{start-suc, start-zero, header-le, stands-once}
+use Rattle.skiplist.proofs.Starts.{start-suc, header-le, stands-once, stands-at-zero, stands-same-block, stands-next-block}
 use Rattle.skiplist.proofs.Places.{formula-stands}
-
--- the first place is the first byte of block 0
-stands-at-zero : (s : ℕ) → 512 ≤ s → Stands s 0 0 0
-stands-at-zero s lo = record { after = omega (arith, start-zero s); before = omega (arith, start-suc s 0); at = omega (arith, start-zero s) }
-
--- the next place, while the block lasts
-stands-same-block : (s p n k : ℕ) → Stands s p n k → p + 1 < startOf s (suc n) → Stands s (p + 1) n (k + 1)
-stands-same-block s p n k at less = record { after = omega (arith, at .after); before = less; at = omega (arith, at .at, at .after) }
-
--- the next place, where the block ends
-stands-next-block : (s p n k : ℕ) → 512 ≤ s → Stands s p n k → startOf s (suc n) ≤ p + 1 → Stands s (p + 1) (suc n) (headerOf (suc n))
-stands-next-block s p n k lo at end =
-    record {
-      after = end;
-      before = omega (arith, at .before, start-suc s (suc n), header-le (suc n));
-      at = omega (arith, at .before, end);
-    }
 
 -- where the block ends, the byte is its last
 last-byte : (s p n k : ℕ) → 512 ≤ s → Stands s p n k → startOf s (suc n) ≤ p + 1 → k + 1 ≡ s
@@ -45,15 +27,20 @@ stands-follows s p n k n′ k′ lo here there =
     inr (last-byte s p n k lo here end, both .0 ∙ next, both .1 ∙ ap headerOf next))
     (cases-lt (p + 1) (startOf s (suc n)))
 
+-- by the formula, the file begins at the first byte of block 0
+formula-first : (s : ℕ) → 512 ≤ s → (blockOf s 0 ≡ 0) × (byteOf s 0 ≡ 0)
+formula-first s lo =
+    stands-once s 0 (blockOf s 0) (byteOf s 0) 0 0 (formula-stands s 0 (blockOf s 0) lo (omega arith) refl) (stands-at-zero s lo)
+
+-- by the formula, the next place follows
+formula-next : (s p : ℕ) → 512 ≤ s → p + 1 < fileLimit → Follows s (blockOf s p) (byteOf s p) (blockOf s (p + 1)) (byteOf s (p + 1))
+formula-next s p lo hi =
+    stands-follows s p (blockOf s p) (byteOf s p) (blockOf s (p + 1)) (byteOf s (p + 1)) lo
+    (formula-stands s p (blockOf s p) lo (omega arith) refl)
+    (formula-stands s (p + 1) (blockOf s (p + 1)) lo hi refl)
+
 pub formula-follows : PlacesFollow
 formula-follows = record {
-  first = λ size.
-      stands-once (bytesOf size) 0 (blockOf (bytesOf size) 0) (byteOf (bytesOf size) 0) 0 0
-      (formula-stands (bytesOf size) 0 (bytes-least size) (omega arith))
-      (stands-at-zero (bytesOf size) (bytes-least size));
-  next = λ size p h.
-      stands-follows (bytesOf size) p (blockOf (bytesOf size) p) (byteOf (bytesOf size) p) (blockOf (bytesOf size) (p + 1)) (byteOf (bytesOf size) (p + 1))
-      (bytes-least size)
-      (formula-stands (bytesOf size) p (bytes-least size) (omega arith))
-      (formula-stands (bytesOf size) (p + 1) (bytes-least size) h);
+  first = λ size. formula-first (bytesOf size) (bytes-least size);
+  next = λ size p h. formula-next (bytesOf size) p (bytes-least size) h;
 }

@@ -1,161 +1,116 @@
--- The closed formula for a place agrees with the layout: the block that it gives holds the place.
-use mathlib.Core.Path.{_≡_, refl, sym, _∙_, ap, subst}
-use mathlib.Core.Logic.{_⊎_, inl, inr, ⊎-elim}
-use Prim.Native.Nat.{ℕ, zero, suc, _+_, _-_, _*_, _/_, _^_, _<_, _≤_}
-use native.Mathlib.Nat.{eq-zero-or-pos, div-mul-le-self, lt-div-mul-add, le-div-iff-mul-le, mul-le-mul-left, mul-comm, mul-zero, suc-mul, mul-suc}
+-- The closed formula for a place agrees with the layout. The layout says in which block the place stands; the first guess
+-- of the formula is that block or the next, and either way the formula comes to that block.
+use mathlib.Core.Path.{_≡_, sym, _∙_, ap, subst}
+use mathlib.Core.Logic.{⊎-elim}
+use Prim.Native.Nat.{ℕ, zero, suc, _+_, _-_, _*_, _/_, _<_, _≤_}
+use native.Mathlib.Nat.{div-mul-le-self, mul-le-mul-left, mul-comm, mul-zero, mul-suc}
 use native.Mathlib.Omega.{arith}
-use lib.Count.{ones, ones-le, trailingZeros}
+use lib.Arith.{digits-div}
+use lib.Count.{ones, ones-le}
 use lib.Dec.{eqb}
-use Rattle.std.proofs.shelf.Tests.{cond-both, eqb-true, eqb-false}
-use Rattle.skiplist.specs.Layout.{startOf, Stands}
-use Rattle.skiplist.specs.Places.{fileLimit, blockLimit, contentOf, blockOf, byteIn, byteOf}
+use Rattle.std.proofs.shelf.Tests.{cases-lt, cond-true, cond-false, eq-eqb, ne-eqb}
+use Rattle.skiplist.specs.Layout.{Stands}
+use Rattle.skiplist.specs.Places.{fileLimit, contentOf, blockOf, byteIn, byteOf, Located}
 use Rattle.skiplist.proofs.Digits.{ones-zero, ones-suc}
-use Rattle.skiplist.proofs.Starts.{start-zero, start-formula}
+use Rattle.skiplist.proofs.Starts.{start-zero, start-suc, start-formula, stands-somewhere, stands-few, stands-inside}
 
--- A place beyond the first b bytes, where b is the average content of a block. The first guess is p / b.
-module _ (b p : ℕ) (lo : 504 ≤ b) (hi : p < fileLimit) (some : p / b ≡ 0 → ⊥) where
-  -- the place less the words before it, by the first guess
-  abbrev lessened : ℕ
-  lessened = p - 4 * (ones (p / b - 1) + 2)
+-- a number from b * n up to b * (n + 1) has the quotient n
+quotient-is : (b q n : ℕ) → b * n ≤ q → q < b * n + b → q / b ≡ n
+quotient-is b q n lo hi =
+    let turned = mul-comm b n in
+    let split : n * b + (q - n * b) ≡ q = omega arith in
+    ap (λ (x : ℕ). x / b) (sym split) ∙ digits-div n {r = q - n * b} (omega arith)
 
-  guess-lt : p / b < 4096
-  guess-lt = omega (arith, div-mul-le-self p b, mul-le-mul-left (p / b) lo)
+-- the formula where the first guess is 0
+block-from-zero : (s p : ℕ) → p / contentOf s ≡ 0 → blockOf s p ≡ 0
+block-from-zero s p e = cond-true (eqb (p / contentOf s) 0) 0 _ (eq-eqb (p / contentOf s) 0 e)
 
-  pub ones-few : ones (p / b - 1) ≤ 12
-  ones-few = ones-le 12 (p / b - 1) (omega (arith, guess-lt))
+-- the formula where the first guess is above 0
+block-from-guess : (s p j : ℕ) → p / contentOf s ≡ suc j → blockOf s p ≡ (p - 4 * (ones j + 2)) / contentOf s
+block-from-guess s p j e =
+    let back : p / contentOf s - 1 ≡ j = omega arith in
+    cond-false (eqb (p / contentOf s) 0) 0 _ (ne-eqb (p / contentOf s) 0 (λ z. omega arith))
+    ∙ ap (λ (x : ℕ). (p - 4 * (ones x + 2)) / contentOf s) back
 
-  pub words-le : 4 * (ones (p / b - 1) + 2) ≤ p
-  words-le = omega (arith, ones-few, div-mul-le-self p b, mul-le-mul-left (p / b) lo)
-
-  -- the first guess is right or one too high
-  guess-near : (lessened / b ≡ p / b) ⊎ (lessened / b ≡ p / b - 1)
-  guess-near =
-      let pos : 0 < b = omega arith in
-      let le : (lessened / b) * b ≤ p = omega (arith, div-mul-le-self lessened b) in
-      let top : lessened / b ≤ p / b = le-div-iff-mul-le pos .1 le in
-      let is-suc : p / b ≡ suc (p / b - 1) = omega arith in
-      let split : (p / b) * b ≡ (p / b - 1) * b + b = ap (λ (x : ℕ). x * b) is-suc ∙ suc-mul (p / b - 1) b in
-      let ge : (p / b - 1) * b ≤ lessened = omega (arith, ones-few, div-mul-le-self p b, split) in
-      let bottom : p / b - 1 ≤ lessened / b = le-div-iff-mul-le pos .1 ge in
-      ⊎-elim
-      (λ e. inr (omega (arith, e, top, bottom, is-suc)))
-      (λ e. inl (omega (arith, e, top, bottom, is-suc)))
-      (eq-zero-or-pos (lessened / b - (p / b - 1)))
-
-  ones-near : ones (lessened / b) ≤ ones (p / b - 1) + 1
-  ones-near =
-      let back : suc (p / b - 1) ≡ p / b = omega arith in
-      let next = ones-suc (p / b - 1) (omega (arith, guess-lt)) in
-      ⊎-elim (λ e. omega (arith, ap ones e, ap ones back, next)) (λ e. omega (arith, ap ones e)) guess-near
-
-  -- what stands before the block does not reach past the place
-  pub before-le : b * (lessened / b) + 4 * ones (lessened / b) ≤ p
-  before-le = omega (arith, words-le, ones-near, div-mul-le-self lessened b, mul-comm b (lessened / b))
-
--- the block of a place, by the formula, is one of the first blocks
-pub block-lt : (s p : ℕ) → 512 ≤ s → p < fileLimit → blockOf s p < blockLimit
-block-lt s p lo hi =
-    cond-both (eqb (p / contentOf s) 0) 0 ((p - 4 * (ones (p / contentOf s - 1) + 2)) / contentOf s)
-    (λ n. n < blockLimit)
-    (λ e. omega arith)
-    (λ e.
-    let some = eqb-false (p / contentOf s) 0 e in
-    let lb : 504 ≤ contentOf s = omega arith in
+-- the formula comes to the block in which the place stands
+block-formula : (s p n k : ℕ) → 512 ≤ s → p < fileLimit → Stands s p n k → blockOf s p ≡ n
+block-formula s p zero k lo hi at =
+    let end : p < s = omega (arith, at .before, start-suc s 0, start-zero s) in
+    let none = mul-zero (contentOf s) in
+    let one : contentOf s * 1 ≡ contentOf s = omega (arith, mul-suc (contentOf s) 0) in
     ⊎-elim
-    (λ t. omega (arith, t, guess-lt (contentOf s) p lb hi some))
-    (λ t. omega (arith, t, guess-lt (contentOf s) p lb hi some))
-    (guess-near (contentOf s) p lb hi some))
+    (λ l. block-from-zero s p (quotient-is (contentOf s) p 0 (omega arith) (omega arith)))
+    (λ l.
+    block-from-guess s p 0 (quotient-is (contentOf s) p 1 (omega arith) (omega arith))
+    ∙ quotient-is (contentOf s) (p - 4 * (ones 0 + 2)) 0 (omega arith) (omega (arith, ones-zero)))
+    (cases-lt p (contentOf s))
+block-formula s p (suc m) k lo hi at =
+    let b : ℕ = contentOf s in
+    let few = stands-few s p (suc m) k lo hi at in
+    let first = start-formula s m lo (omega arith) in
+    let next = start-formula s (suc m) lo (omega arith) in
+    let more = mul-suc b (suc m) in
+    let most : ones m ≤ 12 = ones-le 12 m (omega arith) in
+    let most-next : ones (suc m) ≤ 12 = ones-le 12 (suc m) (omega arith) in
+    let after = at .after in
+    let before = at .before in
+    ⊎-elim
+    (λ l.
+    block-from-guess s p m (quotient-is b p (suc m) (omega arith) (omega arith))
+    ∙ quotient-is b (p - 4 * (ones m + 2)) (suc m) (omega arith) (omega arith))
+    (λ l.
+    block-from-guess s p (suc m) (quotient-is b p (suc (suc m)) (omega arith) (omega arith))
+    ∙ quotient-is b (p - 4 * (ones (suc m) + 2)) (suc m) (omega arith) (omega arith))
+    (cases-lt p (b * suc (suc m)))
 
--- what stands before the block of a place, by the formula, does not reach past the place
-pub block-before-le : (s p : ℕ) → 512 ≤ s → p < fileLimit → contentOf s * blockOf s p + 4 * ones (blockOf s p) ≤ p
-block-before-le s p lo hi =
-    cond-both (eqb (p / contentOf s) 0) 0 ((p - 4 * (ones (p / contentOf s - 1) + 2)) / contentOf s)
-    (λ n. contentOf s * n + 4 * ones n ≤ p)
-    (λ e. omega (arith, ones-zero, mul-zero (contentOf s)))
-    (λ e. before-le (contentOf s) p (omega arith) hi (eqb-false (p / contentOf s) 0 e))
+-- and the byte of the formula is that at which it stands
+byte-formula : (s p n k : ℕ) → 512 ≤ s → p < fileLimit → Stands s p n k → k ≡ byteIn s n p
+byte-formula s p zero k lo hi at = omega (arith, at .at, start-zero s, ones-zero, mul-zero (contentOf s))
+byte-formula s p (suc m) k lo hi at =
+    let few = stands-few s p (suc m) k lo hi at in
+    omega (arith, at .at, at .after, start-formula s m lo (omega arith), ones-suc m (omega arith))
 
--- the same of a number that is that block, with the average content under a name of its own
-pub named-before-le : (s p b n : ℕ) → 512 ≤ s → p < fileLimit → b ≡ contentOf s → n ≡ blockOf s p → b * n + 4 * ones n ≤ p
-named-before-le s p b n lo hi is-content is-block =
-    let le = block-before-le s p lo hi in
-    let same : b * n + 4 * ones n ≡ contentOf s * blockOf s p + 4 * ones (blockOf s p) = cc in
+-- what the formula takes from a place for the blocks before it is no more than the place
+stands-before-le : (s p n k : ℕ) → 512 ≤ s → p < fileLimit → Stands s p n k → contentOf s * n + 4 * ones n ≤ p
+stands-before-le s p zero k lo hi at = omega (arith, ones-zero, mul-zero (contentOf s))
+stands-before-le s p (suc m) k lo hi at =
+    let few = stands-few s p (suc m) k lo hi at in
+    omega (arith, at .after, start-formula s m lo (omega arith), ones-suc m (omega arith))
+
+-- a place stands where the formula says
+pub formula-stands : (s p n : ℕ) → 512 ≤ s → p < fileLimit → n ≡ blockOf s p → Stands s p n (byteIn s n p)
+formula-stands s p n lo hi e = found (stands-somewhere s p lo)
+  where
+    found : (m : ℕ) × (k : ℕ) × Stands s p m k → Stands s p n (byteIn s n p)
+    found (m, k, at) =
+        let same : m ≡ n = sym (e ∙ block-formula s p m k lo hi at) in
+        subst (λ (x : ℕ). Stands s p x (byteIn s x p)) same (subst (λ (x : ℕ). Stands s p m x) (byte-formula s p m k lo hi at) at)
+
+-- so nothing is taken from a place that is not there, with the average content under a name of its own
+pub formula-before-le : (s p b n : ℕ) → 512 ≤ s → p < fileLimit → b ≡ contentOf s → n ≡ blockOf s p → b * n + 4 * ones n ≤ p
+formula-before-le s p b n lo hi is-content is-block =
+    let le = stands-before-le s p n (byteIn s n p) lo hi (formula-stands s p n lo hi is-block) in
+    let same : b * n ≡ contentOf s * n = ap (λ (x : ℕ). x * n) is-content in
     omega arith
 
--- the first bytes stand in block 0
-stands-first : (s p : ℕ) → 512 ≤ s → p / contentOf s ≡ 0 → Stands s p 0 (byteIn s 0 p)
-stands-first s p lo e =
-    let pos : 0 < s - 8 = omega arith in
-    let less = lt-div-mul-add {a = p} {b = s - 8} pos in
-    let none = ap (λ (x : ℕ). x * (s - 8)) e in
+-- a location by the formula is one by the layout
+pub formula-located : (s p n k : ℕ) → 512 ≤ s → p < fileLimit → n ≡ blockOf s p → k ≡ byteOf s p → Located s p (record { block = n; byte = k })
+formula-located s p n k lo hi is-block is-byte =
+    let is : byteIn s n p ≡ k = cc in
+    let stand = subst (λ (x : ℕ). Stands s p n x) is (formula-stands s p n lo hi is-block) in
     record {
-      after = omega (arith, start-zero s);
-      before = omega (arith, less, none, start-formula s 0 lo (omega arith), ones-zero);
-      at = omega (arith, ones-zero, start-zero s);
+      within = hi;
+      block = is-block;
+      byte = is-byte;
+      stands = stand;
+      few = stands-few s p n k lo hi stand;
+      inside = stands-inside s p n k lo stand;
     }
 
--- beyond them, the block n of the formula holds the place
-stands-beyond : (s p n : ℕ) → 512 ≤ s → p < fileLimit → (p / contentOf s ≡ 0 → ⊥)
-    → n ≡ (p - 4 * (ones (p / contentOf s - 1) + 2)) / contentOf s → Stands s p n (byteIn s n p)
-stands-beyond s p zero lo hi some e =
-    let b : ℕ = s - 8 in
-    let q : ℕ = p - 4 * (ones (p / b - 1) + 2) in
-    let lb : 504 ≤ b = omega arith in
-    let pos : 0 < b = omega arith in
-    let less = lt-div-mul-add {a = q} {b = b} pos in
-    let none = ap (λ (x : ℕ). x * b) e in
-    let low : p < s =
-    ⊎-elim
-    (λ t. absurd (some (sym (e ∙ t))))
-    (λ t. omega (arith, less, none, ones-zero, ap ones (sym t ∙ sym e), words-le b p lb hi some))
-    (guess-near b p lb hi some) in
-    record {
-      after = omega (arith, start-zero s);
-      before = omega (arith, low, start-formula s 0 lo (omega arith), ones-zero);
-      at = omega (arith, ones-zero, start-zero s);
-    }
-stands-beyond s p (suc m) lo hi some e =
-    let b : ℕ = s - 8 in
-    let j : ℕ = p / b in
-    let q : ℕ = p - 4 * (ones (j - 1) + 2) in
-    let lb : 504 ≤ b = omega arith in
-    let pos : 0 < b = omega arith in
-    let near = guess-near b p lb hi some in
-    let high = guess-lt b p lb hi some in
-    let small : suc m < 4096 = ⊎-elim (λ t. omega (arith, e, t, high)) (λ t. omega (arith, e, t, high)) near in
-    let first = start-formula s m lo (omega (arith, small)) in
-    let next = start-formula s (suc m) lo (omega (arith, small)) in
-    let product : suc m * b ≡ q / b * b = ap (λ (x : ℕ). x * b) e in
-    let turned = mul-comm b (suc m) in
-    let more = mul-suc b (suc m) in
-    let few : ones m ≤ 12 = ones-le 12 m (omega (arith, small)) in
-    let both : (startOf s (suc m) ≤ p) × (p < startOf s (suc (suc m))) =
-    ⊎-elim
-    (λ t.
-    let at : suc m ≡ j = e ∙ t in
-    let same : ones (j - 1) ≡ ones m = ap ones (omega (arith, at)) in
-    let jb : suc m * b ≡ j * b = ap (λ (x : ℕ). x * b) at in (
-      omega (arith, first, product, turned, same, div-mul-le-self q b, words-le b p lb hi some),
-      omega (arith, next, turned, more, jb, lt-div-mul-add {a = p} {b = b} pos),
-    ))
-    (λ t.
-    let at : suc m ≡ j - 1 = e ∙ t in
-    let je : j ≡ suc (suc m) = omega (arith, at, small) in
-    let jb : j * b ≡ suc m * b + b = ap (λ (x : ℕ). x * b) je ∙ suc-mul (suc m) b in (
-      omega (arith, first, turned, jb, few, lb, div-mul-le-self p b),
-      omega (arith, next, product, turned, more, ap ones at, lt-div-mul-add {a = q} {b = b} pos, words-le b p lb hi some),
-    ))
-    near in
-    record { after = both .0; before = both .1; at = omega (arith, both .0, first, ones-suc m (omega (arith, small))) }
+-- the ones of the first guess are few
+pub guess-ones-le : (b p : ℕ) → 504 ≤ b → p < fileLimit → (p / b ≡ 0 → ⊥) → ones (p / b - 1) ≤ 12
+guess-ones-le b p lo hi some = ones-le 12 (p / b - 1) (omega (arith, div-mul-le-self p b, mul-le-mul-left (p / b) lo))
 
--- the formula and the layout agree
-pub formula-stands : (s p : ℕ) → 512 ≤ s → p < fileLimit → Stands s p (blockOf s p) (byteOf s p)
-formula-stands s p lo hi =
-    cond-both (eqb (p / contentOf s) 0) 0 ((p - 4 * (ones (p / contentOf s - 1) + 2)) / contentOf s)
-    (λ n. Stands s p n (byteIn s n p))
-    (λ e. stands-first s p lo (eqb-true (p / contentOf s) 0 e))
-    (λ e. stands-beyond s p _ lo hi (eqb-false (p / contentOf s) 0 e) refl)
-
--- the same of a block and a byte that are those of the formula
-pub named-stands : (s p n k : ℕ) → 512 ≤ s → p < fileLimit → n ≡ blockOf s p → k ≡ byteOf s p → Stands s p n k
-named-stands s p n k lo hi is-block is-byte =
-    subst (λ (x : ℕ). Stands s p n x) (sym is-byte) (subst (λ (x : ℕ). Stands s p x (byteOf s p)) (sym is-block) (formula-stands s p lo hi))
+-- the words by the first guess are no more than the place
+pub guess-words-le : (b p : ℕ) → 504 ≤ b → p < fileLimit → (p / b ≡ 0 → ⊥) → 4 * (ones (p / b - 1) + 2) ≤ p
+guess-words-le b p lo hi some = omega (arith, guess-ones-le b p lo hi some, div-mul-le-self p b, mul-le-mul-left (p / b) lo)

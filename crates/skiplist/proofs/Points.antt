@@ -1,11 +1,9 @@
 -- The known points, computed.
-use mathlib.Core.Path.{_≡_, refl}
-use Prim.Native.Nat.{ℕ}
+use mathlib.Core.Path.{refl}
 use lib.Count.{ones, onesIn, trailingZeros}
 use lib.Dec.{lit<, lit≤}
-use Rattle.skiplist.specs.Layout.{pointersOf, startOf, Stands}
-use Rattle.skiplist.specs.Places.{blockOf, byteOf}
-use Rattle.skiplist.specs.Laws.{Known, KnownPlaces}
+use Rattle.skiplist.specs.Layout.{startOf}
+use Rattle.skiplist.specs.Laws.{KnownPlaces}
 
 pub known-points : KnownPlaces
 unfolding ones onesIn trailingZeros startOf

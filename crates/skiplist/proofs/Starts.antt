@@ -1,13 +1,14 @@
 -- The places at which the blocks begin: the closed formula, that they ascend, and that one place stands in one block.
-use mathlib.Core.Path.{_≡_, refl, sym, _∙_, ap}
-use mathlib.Core.Logic.{_⊎_, inl, inr, ⊎-elim}
+use mathlib.Core.Path.{_≡_, refl, sym, _∙_, ap, subst}
+use mathlib.Core.Logic.{⊎-elim}
 use Prim.Native.Nat.{ℕ, zero, suc, _+_, _-_, _*_, _^_, _<_, _≤_}
 use native.Mathlib.Nat.{le-refl, mul-suc}
 use native.Mathlib.Decide.{le-ind}
 use native.Mathlib.Omega.{arith}
-use lib.Count.{ones, trailingZeros, trailing-le}
-use Rattle.std.proofs.shelf.Tests.{cases-order}
-use Rattle.skiplist.specs.Layout.{pointersOf, headerOf, startOf, Stands}
+use lib.Count.{ones, trailing-le}
+use Rattle.std.proofs.shelf.Tests.{cases-lt, cases-order}
+use Rattle.skiplist.specs.Layout.{headerOf, startOf, Stands}
+use Rattle.skiplist.specs.Places.{fileLimit, blockLimit}
 use Rattle.skiplist.proofs.Digits.{ones-zero, ones-suc}
 
 pub start-zero : (s : ℕ) → startOf s 0 ≡ 0
@@ -56,3 +57,42 @@ stands-once s p n k n′ k′ here there =
 -- a byte at which a place stands is a byte of the block
 pub stands-inside : (s p n k : ℕ) → 512 ≤ s → Stands s p n k → k < s
 stands-inside s p n k lo at = omega (arith, header-le n, start-suc s n, at .after, at .before, at .at)
+
+-- the first place is the first byte of block 0
+pub stands-at-zero : (s : ℕ) → 512 ≤ s → Stands s 0 0 0
+stands-at-zero s lo = record { after = omega (arith, start-zero s); before = omega (arith, start-suc s 0); at = omega (arith, start-zero s) }
+
+-- the next place, while the block lasts
+pub stands-same-block : (s p n k : ℕ) → Stands s p n k → p + 1 < startOf s (suc n) → Stands s (p + 1) n (k + 1)
+stands-same-block s p n k at less = record { after = omega (arith, at .after); before = less; at = omega (arith, at .at, at .after) }
+
+-- the next place, where the block ends
+pub stands-next-block : (s p n k : ℕ) → 512 ≤ s → Stands s p n k → startOf s (suc n) ≤ p + 1 → Stands s (p + 1) (suc n) (headerOf (suc n))
+stands-next-block s p n k lo at end =
+    record {
+      after = end;
+      before = omega (arith, at .before, start-suc s (suc n), header-le (suc n));
+      at = omega (arith, at .before, end);
+    }
+
+-- every place stands somewhere
+pub stands-somewhere : (s p : ℕ) → 512 ≤ s → (n : ℕ) × (k : ℕ) × Stands s p n k
+stands-somewhere s zero lo = (0, 0, stands-at-zero s lo)
+stands-somewhere s (suc p) lo = next (stands-somewhere s p lo)
+  where
+    next : (n : ℕ) × (k : ℕ) × Stands s p n k → (n : ℕ) × (k : ℕ) × Stands s (suc p) n k
+    next (n, k, at) =
+        let e : p + 1 ≡ suc p = omega arith in
+        ⊎-elim
+        (λ less. (n, k + 1, subst (λ (x : ℕ). Stands s x n (k + 1)) e (stands-same-block s p n k at less)))
+        (λ end. (suc n, headerOf (suc n), subst (λ (x : ℕ). Stands s x (suc n) (headerOf (suc n))) e (stands-next-block s p n k lo at end)))
+        (cases-lt (p + 1) (startOf s (suc n)))
+
+-- each block has more than 380 bytes of content
+start-ge : (s n : ℕ) → 512 ≤ s → 380 * n ≤ startOf s n
+start-ge s zero lo = omega arith
+start-ge s (suc n) lo = omega (arith, start-ge s n lo, start-suc s n, header-le n)
+
+-- a place of a file stands in one of the first blocks
+pub stands-few : (s p n k : ℕ) → 512 ≤ s → p < fileLimit → Stands s p n k → n < blockLimit
+stands-few s p n k lo hi at = omega (arith, start-ge s n lo, at .after)

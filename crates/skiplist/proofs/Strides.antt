@@ -1,12 +1,11 @@
 -- The word that a walk follows: the smaller of two bounds, the last word there is and the last that does not pass the goal.
-use mathlib.Core.Path.{_≡_, refl, ap}
-use mathlib.Core.Logic.{_⊎_, inl, inr, ⊎-elim}
-use Prim.Native.Nat.{ℕ, zero, suc, _+_, _-_, _^_, _<_, _≤_, min}
+use mathlib.Core.Path.{_≡_}
+use mathlib.Core.Logic.{⊎-elim}
+use Prim.Native.Nat.{ℕ, suc, _-_, _^_, _<_, _≤_, min}
 use native.Mathlib.Omega.{arith}
 use lib.Count.{trailingZeros, leadingZeros, leading-top}
 use lib.Pow.{pow-pos, pow-mono}
 use Rattle.std.proofs.shelf.Tests.{cases-lt}
-use Rattle.skiplist.specs.Layout.{pointersOf}
 use Rattle.skiplist.specs.Strides.{Stride}
 use Rattle.skiplist.proofs.Words.{pointers-later}
 

@@ -1,8 +1,8 @@
 -- How a file lies in blocks of s bytes: block 0 is all content, and block i above 0 begins with words of four bytes, one more
 -- than i has zero bits at its end, and goes on with content. The content of the blocks, one after the other, is the file.
 use mathlib.Core.Path.{_≡_}
-use Prim.Native.Nat.{ℕ, zero, suc, _+_, _-_, _*_, _/_, _%_, _^_, _<_, _≤_}
-use lib.Count.{ones, trailingZeros}
+use Prim.Native.Nat.{ℕ, zero, suc, _+_, _-_, _*_, _%_, _^_, _<_, _≤_}
+use lib.Count.{trailingZeros}
 
 -- how many words block i begins with
 abbrev pub pointersOf : ℕ → ℕ

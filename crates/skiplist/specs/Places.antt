@@ -22,8 +22,8 @@ blockLimit = 4096
 abbrev pub contentOf : ℕ → ℕ
 contentOf s = s - 8
 
--- The block of the place p. The quotient by the average content is right or one too high, and the words of the blocks
--- before it, two for each but for the ones of its number, say which.
+-- The block of the place p. The quotient j by the average content is the block or one too high. The blocks from 1 to j - 1
+-- have two words each, less one for each one bit of j - 1, so it is the place less what the words make up that says which.
 abbrev pub blockOf : ℕ → ℕ → ℕ
 blockOf s p = cond (eqb (p / contentOf s) 0) 0 ((p - 4 * (ones (p / contentOf s - 1) + 2)) / contentOf s)
 

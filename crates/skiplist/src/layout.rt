@@ -1,8 +1,7 @@
 // The layout of a file in its blocks: how many words a block begins with, where a place stands, how many blocks there are.
 // Each function computes by a closed formula, and is proved to agree with the layout written out block after block.
 ghost use mathlib.Core.Path.{_≡_};
-ghost use Prim.Native.Nat.{_+_, _*_, _<_, _≤_};
-ghost use lib.Count.{ones};
+ghost use Prim.Native.Nat.{_<_, _≤_};
 ghost use Rattle.skiplist.specs.Sizes.{bytesOf};
 ghost use Rattle.skiplist.specs.Layout.{pointersOf, Words};
 ghost use Rattle.skiplist.specs.Places.{fileLimit, contentOf, blockOf, Locates, FirstPlace, BlocksFor};

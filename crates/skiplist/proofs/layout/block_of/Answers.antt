@@ -1,15 +1,15 @@
 -- The words before a place are few, and no more than the place has bytes before it.
 use native.Mathlib.Omega.{arith}
-use Rattle.skiplist.proofs.Places.{ones-few, words-le}
+use Rattle.skiplist.proofs.Places.{guess-ones-le, guess-words-le}
 use Rattle.skiplist.proofs.layout.block_of.Needs as need
 
 pub add-result : need.add-result
 add-result c =
-    omega (arith, ones-few (c .content-content .result) (c .args .place) (c .content-content .ensures .least) (omega arith) (c .if-guess-eq0 .left))
+    omega (arith, guess-ones-le (c .content-content .result) (c .args .place) (c .content-content .ensures .least) (omega arith) (c .if-guess-eq0 .left))
 
 pub mul-result : need.mul-result
 mul-result c =
-    omega (arith, ones-few (c .content-content .result) (c .args .place) (c .content-content .ensures .least) (omega arith) (c .if-guess-eq0 .left))
+    omega (arith, guess-ones-le (c .content-content .result) (c .args .place) (c .content-content .ensures .least) (omega arith) (c .if-guess-eq0 .left))
 
 pub sub-result-2 : need.sub-result-2
-sub-result-2 c = words-le (c .content-content .result) (c .args .place) (c .content-content .ensures .least) (omega arith) (c .if-guess-eq0 .left)
+sub-result-2 c = guess-words-le (c .content-content .result) (c .args .place) (c .content-content .ensures .least) (omega arith) (c .if-guess-eq0 .left)

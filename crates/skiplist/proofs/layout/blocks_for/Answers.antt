@@ -7,4 +7,5 @@ use Rattle.skiplist.proofs.layout.blocks_for.Needs as need
 pub returns : need.returns
 returns c =
     let last = c .in-Continue-last .ensures tt in
-    needed-up-to (bytesOf (c .args .size)) (c .args .bytes) (c .in-Continue-last .last .block) (c .in-Continue-last .last .byte) (c .if-bytes-eq0 .left) (omega arith) (last .stands)
+    needed-up-to (bytesOf (c .args .size)) (c .args .bytes) (c .in-Continue-last .last .block) (c .in-Continue-last .last .byte)
+    (c .if-bytes-eq0 .left) (omega arith) (last .stands)

@@ -1,8 +1,8 @@
 -- A block below the limit begins where the formula says, and no sum on the way is too large.
-use Prim.Native.Nat.{ℕ, _-_, _*_, _≤_}
+use Prim.Native.Nat.{_-_, _*_, _≤_}
 use native.Mathlib.Nat.{mul-le-mul}
 use native.Mathlib.Omega.{arith}
-use lib.Count.{ones, ones-le}
+use lib.Count.{ones-le}
 use Rattle.skiplist.specs.Sizes.{bytesOf}
 use Rattle.skiplist.proofs.Sizes.{bytes-least}
 use Rattle.skiplist.proofs.Extents.{begins-zero, begins-later}
@@ -21,4 +21,5 @@ add-result-2 c =
 
 pub returns : need.returns
 returns c =
-    begins-later (bytesOf (c .args .size)) (c .content .result) (c .args .block) (bytes-least (c .args .size)) (c .content .ensures .is) (c .if-block-eq0 .left) (omega arith)
+    begins-later (bytesOf (c .args .size)) (c .content .result) (c .args .block)
+    (bytes-least (c .args .size)) (c .content .ensures .is) (c .if-block-eq0 .left) (omega arith)

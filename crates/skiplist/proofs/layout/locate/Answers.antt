@@ -2,18 +2,16 @@
 use mathlib.Core.Path.{_≡_}
 use Prim.Native.Nat.{_+_, _-_, _*_, _≤_}
 use native.Mathlib.Omega.{arith}
-use borrow.Author.Needs.{needs}
 use lib.Count.{ones}
 use Rattle.skiplist.specs.Sizes.{bytesOf}
-use Rattle.skiplist.specs.Places.{byteIn, byteOf}
+use Rattle.skiplist.specs.Places.{byteOf}
 use Rattle.skiplist.proofs.Sizes.{bytes-least}
-use Rattle.skiplist.proofs.Starts.{stands-inside}
-use Rattle.skiplist.proofs.Places.{block-lt, named-before-le, named-stands}
+use Rattle.skiplist.proofs.Places.{formula-before-le, formula-located}
 use Rattle.skiplist.proofs.layout.locate.Needs as need
 
 before-le : (c : need.After-content) → c .content .result * c .block-of-block .result + 4 * ones (c .block-of-block .result) ≤ c .args .place
 before-le c =
-    named-before-le (bytesOf (c .args .size)) (c .args .place) (c .content .result) (c .block-of-block .result)
+    formula-before-le (bytesOf (c .args .size)) (c .args .place) (c .content .result) (c .block-of-block .result)
     (bytes-least (c .args .size)) (omega arith) (c .content .ensures .is) (c .block-of-block .ensures .is)
 
 pub mul-byte-2 : need.mul-byte-2
@@ -29,12 +27,4 @@ returns c =
     let is-block = c .block-of-block .ensures .is in
     let is-content = c .content .ensures .is in
     let is-byte : c .args .place - c .content .result * n - 4 * ones n ≡ byteOf s (c .args .place) = cc in
-    let stand = named-stands s (c .args .place) n _ (bytes-least (c .args .size)) (omega arith) is-block is-byte in
-    record {
-      within = omega arith;
-      block = is-block;
-      byte = is-byte;
-      stands = stand;
-      few = omega (arith, is-block, block-lt s (c .args .place) (bytes-least (c .args .size)) (omega arith));
-      inside = stands-inside s (c .args .place) n _ (bytes-least (c .args .size)) stand;
-    }
+    formula-located s (c .args .place) n _ (bytes-least (c .args .size)) (omega arith) is-block is-byte
