@@ -1,4 +1,5 @@
 -- The binary digits of a number and of the next: how their ones and the zeros at the end are tied.
+-- This is what makes the closed formulas for places right: words are counted by zeros, and the formulas count ones.
 use mathlib.Core.Path.{_≡_, refl, ap}
 use mathlib.Core.Logic.{⊎-elim}
 use Prim.Native.Nat.{ℕ, zero, suc, _+_, _/_, _%_, _^_, _<_}

@@ -1,4 +1,5 @@
 -- Where a block begins and how many blocks a file has: what the code computes is what the layout says.
+-- A file ends in the block in which its last byte stands.
 use mathlib.Core.Path.{_≡_, refl, ap}
 use mathlib.Core.Logic.{_⊎_, inl, inr}
 use Prim.Native.Nat.{ℕ, zero, suc, _+_, _-_, _*_, _<_, _≤_}

@@ -1,4 +1,5 @@
 -- Places follow one another: the next place stands at the next byte of the block, or at the first content byte of the next.
+-- It holds of the layout, and of the formula since that agrees with the layout.
 use mathlib.Core.Path.{_≡_, refl, _∙_, ap}
 use mathlib.Core.Logic.{inl, inr, ⊎-elim}
 use Prim.Native.Nat.{ℕ, suc, _+_, _<_, _≤_}

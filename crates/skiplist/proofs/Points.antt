@@ -1,4 +1,5 @@
--- The known points, computed.
+-- The known points, computed: each side of an equation comes to the same number.
+-- So the definitions are those that were meant.
 use mathlib.Core.Path.{refl}
 use lib.Count.{ones, onesIn, trailingZeros}
 use lib.Dec.{lit<, lit≤}

@@ -1,4 +1,5 @@
 -- Every size has between 512 and 4,096 bytes.
+-- The lemmas on places ask no more of a size than the first.
 use Prim.Native.Nat.{_≤_}
 use native.Mathlib.Omega.{arith}
 use Rattle.skiplist.specs.Sizes.{bytesOf}

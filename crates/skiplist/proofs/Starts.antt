@@ -1,4 +1,5 @@
--- The places at which the blocks begin: the closed formula, that they ascend, and that one place stands in one block.
+-- The places at which the blocks begin: the closed formula, and that they ascend.
+-- So every place stands in one block, at one byte of it, and the next place at the next.
 use mathlib.Core.Path.{_≡_, refl, sym, _∙_, ap, subst}
 use mathlib.Core.Logic.{⊎-elim}
 use Prim.Native.Nat.{ℕ, zero, suc, _+_, _-_, _*_, _^_, _<_, _≤_}

@@ -1,4 +1,5 @@
 -- The word that a walk follows: the smaller of two bounds, the last word there is and the last that does not pass the goal.
+-- The second is the place of the highest binary digit of the distance.
 use mathlib.Core.Path.{_≡_}
 use mathlib.Core.Logic.{⊎-elim}
 use Prim.Native.Nat.{ℕ, suc, _-_, _^_, _<_, _≤_, min}

@@ -1,4 +1,5 @@
 -- The words at the beginning of a block: block i has a word k exactly where 2 ^ k divides i.
+-- The code counts the zeros at the end of i; each is one division by two.
 use mathlib.Core.Path.{_≡_, refl, sym, _∙_, ap}
 use mathlib.Core.Logic.{⊎-elim}
 use Prim.Native.Nat.{ℕ, zero, suc, _+_, _*_, _/_, _%_, _^_, _<_, _≤_}

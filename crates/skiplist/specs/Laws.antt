@@ -1,10 +1,12 @@
--- Laws of the layout: known points, that a place stands once, and that places follow one another.
+-- Laws of the layout as a whole: known points, that a place stands once, that places follow one another, and that walks
+-- are short. Each is the contract of a function of its own, so that it is proved.
 use mathlib.Core.Path.{_≡_}
 use mathlib.Core.Logic.{_⊎_}
-use Prim.Native.Nat.{ℕ, _+_, _<_}
+use Prim.Native.Nat.{ℕ, _+_, _*_, _^_, _<_, _≤_}
 use Rattle.skiplist.specs.Sizes.{bytesOf}
 use Rattle.skiplist.specs.Layout.{pointersOf, headerOf, Stands}
 use Rattle.skiplist.specs.Places.{fileLimit, blockOf, byteOf}
+use Rattle.skiplist.specs.Strides.{Walk}
 use Rattle.skiplist.specs.declared.size.BlockSize.{BlockSize}
 
 -- the place p stands at the byte k of block n, by the formula and by the layout
@@ -39,3 +41,9 @@ pub record PlacesFollow : Type 0 where
   pub first : (size : BlockSize) → (blockOf (bytesOf size) 0 ≡ 0) × (byteOf (bytesOf size) 0 ≡ 0)
   pub next : (size : BlockSize) (p : ℕ) → p + 1 < fileLimit
       → Follows (bytesOf size) (blockOf (bytesOf size) p) (byteOf (bytesOf size) p) (blockOf (bytesOf size) (p + 1)) (byteOf (bytesOf size) (p + 1))
+
+-- There is a walk back to every earlier block, and it takes at most two steps for each binary digit of the number of the
+-- block that it begins at: first the steps grow with each block, then they shrink with each.
+pub record WalksEnd : Type 0 where
+  pub ends : (from to : ℕ) → to ≤ from → from < 2 ^ 32 → (n : ℕ) × Walk to from n
+  pub few : (digits from to n : ℕ) → digits ≤ 32 → from < 2 ^ digits → Walk to from n → n ≤ 2 * digits

@@ -1,4 +1,5 @@
--- Where a place of a file stands, by the closed formula, and what is answered to who asks for it.
+-- Where a place of a file stands, where a block begins and how many blocks there are, by closed formulas and by the layout.
+-- For each question there is a relation between what was asked and the answer, with the reason of an answer that is none.
 use mathlib.Core.Path.{_≡_}
 use mathlib.Core.Logic.{_⊎_}
 use mathlib.Core.Bool.{cond}
@@ -22,8 +23,8 @@ blockLimit = 4096
 abbrev pub contentOf : ℕ → ℕ
 contentOf s = s - 8
 
--- The block of the place p. The quotient j by the average content is the block or one too high. The blocks from 1 to j - 1
--- have two words each, less one for each one bit of j - 1, so it is the place less what the words make up that says which.
+-- The block of the place p. The quotient j by the average content is the block or one too high; to take eight bytes, and
+-- four for each one bit of j - 1, from the place before dividing sets that right.
 abbrev pub blockOf : ℕ → ℕ → ℕ
 blockOf s p = cond (eqb (p / contentOf s) 0) 0 ((p - 4 * (ones (p / contentOf s - 1) + 2)) / contentOf s)
 

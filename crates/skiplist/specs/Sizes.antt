@@ -1,4 +1,5 @@
 -- The four sizes of a block, and what it is for a number of bytes to be one of them.
+-- Every other definition takes the number of bytes, s; the contracts give it as that of a size.
 use mathlib.Core.Path.{_≡_}
 use Prim.Native.Nat.{ℕ}
 use Rattle.std.specs.declared.option.Option.{Option}

@@ -1,7 +1,7 @@
 // Theorems on the layout as a whole. Each is the contract of a function, which itself answers no more than a number that
 // the theorem speaks of.
 ghost use mathlib.Core.Path.{_≡_};
-ghost use Rattle.skiplist.specs.Laws.{KnownPlaces, OneLocation, PlacesFollow};
+ghost use Rattle.skiplist.specs.Laws.{KnownPlaces, OneLocation, PlacesFollow, WalksEnd};
 
 // Known places of a file in blocks of 512 bytes stand where they should, and known blocks have the words that they should.
 // The answer is how many points are known.
@@ -26,4 +26,13 @@ pub fn places_follow() -> u8
     ensures law { λ _. ⌜ PlacesFollow ⌝ }
 {
     0
+}
+
+// The walk back to an earlier block ends, and takes at most two steps for each binary digit of the number of the block that
+// it begins at. The answer is how many steps a digit may take.
+pub fn walks_end() -> u8
+    ensures steps { λ r. ⌜ r ≡ 2 ⌝ }
+    ensures law { λ _. ⌜ WalksEnd ⌝ }
+{
+    2
 }

@@ -9,6 +9,7 @@ mod walk;
 pub use laws::known_places;
 pub use laws::one_location;
 pub use laws::places_follow;
+pub use laws::walks_end;
 pub use layout::BLOCK_LIMIT;
 pub use layout::FILE_LIMIT;
 pub use layout::Location;

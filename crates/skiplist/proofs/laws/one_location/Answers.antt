@@ -1,4 +1,5 @@
--- Blocks begin in their order, so a place stands once.
+-- Blocks begin in their order,
+-- so a place stands once.
 use borrow.Author.Needs.{needs}
 use Rattle.skiplist.proofs.Starts.{stands-once}
 use Rattle.skiplist.proofs.laws.one_location.Needs as need

@@ -1,4 +1,5 @@
--- The words before a place are few, and no more than the place has bytes before it.
+-- The words before a place are few, and no more than the place has bytes before it,
+-- so no sum is too large and no difference below 0.
 use native.Mathlib.Omega.{arith}
 use Rattle.skiplist.proofs.Places.{guess-ones-le, guess-words-le}
 use Rattle.skiplist.proofs.layout.block_of.Needs as need

@@ -1,4 +1,5 @@
 -- A file has as many blocks as there are up to the one in which its last byte stands.
+-- That block is where `locate` says.
 use native.Mathlib.Omega.{arith}
 use Rattle.skiplist.specs.Sizes.{bytesOf}
 use Rattle.skiplist.proofs.Extents.{needed-up-to}

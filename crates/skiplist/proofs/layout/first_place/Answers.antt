@@ -1,4 +1,5 @@
--- A block below the limit begins where the formula says, and no sum on the way is too large.
+-- A block below the limit begins where the formula says.
+-- Its number has at most twelve digits, so no sum on the way is too large.
 use Prim.Native.Nat.{_-_, _*_, _≤_}
 use native.Mathlib.Nat.{mul-le-mul}
 use native.Mathlib.Omega.{arith}

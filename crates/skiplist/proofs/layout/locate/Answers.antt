@@ -1,4 +1,5 @@
--- The byte is what is left of the place behind all that stands before its block; the layout agrees with the formula.
+-- The byte is what is left of the place behind all that stands before its block.
+-- The formula agrees with the layout, so the location is right by both.
 use mathlib.Core.Path.{_≡_}
 use Prim.Native.Nat.{_+_, _-_, _*_, _≤_}
 use native.Mathlib.Omega.{arith}

@@ -1,4 +1,5 @@
--- The zeros at the end of a block's number say which powers of two divide it.
+-- The zeros at the end of a block's number say which powers of two divide it,
+-- and so which words the block has.
 use native.Mathlib.Omega.{arith}
 use borrow.Author.Needs.{needs}
 use Rattle.skiplist.proofs.Words.{words-none, words-later}

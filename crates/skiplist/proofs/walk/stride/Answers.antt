@@ -1,4 +1,5 @@
--- The word of a step is the smaller of the two bounds.
+-- The word of a step is the smaller of the two bounds:
+-- the last word that there is, and the last that does not pass the goal.
 use native.Mathlib.Omega.{arith}
 use Rattle.skiplist.proofs.Strides.{stride-by-min}
 use Rattle.skiplist.proofs.walk.stride.Needs as need
