@@ -11,3 +11,4 @@ pub mod Commits
 pub mod Reading
 pub mod Puts
 pub mod Writes
+pub mod Parts

@@ -1,14 +1,15 @@
 -- What the tests of the commit writer decide, and what its writes come to.
 use mathlib.Core.Path.{_≡_, refl, sym, ap, subst, _∙_}
-use mathlib.Core.Bool.{Bool, true, false, cond}
+use mathlib.Core.Bool.{Bool, true, false, cond, not, _&&_}
 use mathlib.Core.List.{List, [], _∷_, _++_}
-use Prim.Native.Nat.{ℕ, _+_, _-_, _*_, _%_, _^_, _≤_}
+use Prim.Native.Nat.{ℕ, suc, _+_, _-_, _*_, _/_, _%_, _^_, _≤_, _<_}
 use native.Mathlib.Omega.{arith}
 use lib.Bits.{bitXor}
-use lib.Dec.{leb}
-use lib.ListN.{length, take, replicate}
+use lib.Dec.{leb, ltb, eqb}
+use lib.ListN.{length, getD, take, replicate}
+use Rattle.std.specs.shelf.Lists.{All}
 use Rattle.std.proofs.shelf.Lists.{length-take-le, length-replicate}
-use Rattle.std.proofs.shelf.Tests.{cond-true, cond-false}
+use Rattle.std.proofs.shelf.Tests.{cond-true, cond-false, and-parts, ltb-true, eqb-false, not-true}
 use Rattle.std.specs.declared.option.Option.{Option}
 use Rattle.std.specs.declared.option.Option.the-variants.{Some, None}
 use Rattle.metalog.specs.declared.writer.Unwritable.{Unwritable}
@@ -16,8 +17,8 @@ use Rattle.metalog.specs.declared.writer.Unwritable.the-variants.{BadTag, NoRo
 use Rattle.metalog.specs.Crc.{crcOf}
 use Rattle.metalog.specs.Tag.{be4, le4}
 use Rattle.metalog.specs.Log.{seed}
-use Rattle.metalog.specs.Commit.{ending, padOf, endWith, endBytes}
-use Rattle.metalog.specs.Writer.{Put, isSound, tagFor, putRefusal, endRefusal}
+use Rattle.metalog.specs.Commit.{Sound, ending, padOf, endWith, endBytes}
+use Rattle.metalog.specs.Writer.{Put, isSound, tagFor, piece, putRefusal, endRefusal}
 use Rattle.metalog.proofs.Puts.{then}
 
 module _ (used long kind id n : ℕ) where
@@ -70,3 +71,22 @@ end-put b b1 b2 b3 i prior l p q r =
     let q1 : Put b1 b2 (i + 4) (le4 (crcOf seed (take i b ++ be4 w))) = subst (λ xs. Put b1 b2 (i + 4) (le4 (crcOf seed xs))) (p .front) q in
     let all : Put b b3 i (endWith pad (take i b) prior) = then (then p q1) r in
     subst (λ xs. Put b b3 i xs) same all
+
+-- a slice of bytes, by what is known of each of them
+pub small : (xs : List ℕ) → ((i : ℕ) → getD xs i 0 < 256) → All (λ x. x < 256) xs
+small [] h = tt
+small (x ∷ xs) h = (h 0, small xs (λ i. h (suc i)))
+
+-- the test of an entry's fields says that it can be written
+pub sound : (kind id : ℕ) (bytes : List ℕ) → isSound kind id (length bytes) ≡ true → ((i : ℕ) → getD bytes i 0 < 256) → Sound (piece kind id bytes)
+sound kind id bytes e h =
+    let a = and-parts (ltb kind (2 ^ 11)) (not (eqb (kind / 16) 0x50) && (ltb id (2 ^ 10) && ltb (length bytes) (2 ^ 10))) e in
+    let b = and-parts (not (eqb (kind / 16) 0x50)) (ltb id (2 ^ 10) && ltb (length bytes) (2 ^ 10)) (a .1) in
+    let c = and-parts (ltb id (2 ^ 10)) (ltb (length bytes) (2 ^ 10)) (b .1) in
+    record {
+      kind = ltb-true kind (2 ^ 11) (a .0);
+      plain = eqb-false (kind / 16) 0x50 (not-true (eqb (kind / 16) 0x50) (b .0));
+      id = ltb-true id (2 ^ 10) (c .0);
+      long = ltb-true (length bytes) (2 ^ 10) (c .1);
+      small = small bytes h;
+    }

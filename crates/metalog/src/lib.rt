@@ -26,4 +26,7 @@ pub use revisions::revisions_are_ordered;
 pub use tags::Role;
 pub use tags::Tag;
 pub use writer::CommitWriter;
+pub use writer::Part;
 pub use writer::Unwritable;
+pub use writer::write_first;
+pub use writer::write_next;

@@ -1,7 +1,7 @@
 // Writes one commit into the caller's buffer, entry by entry, and then its end: a value that is spent by `finish`, so
 // that an entry behind the end of a commit does not compile.
 ghost use denote.Ref.{name};
-ghost use mathlib.Core.List.{_++_};
+ghost use mathlib.Core.List.{_++_, map};
 ghost use mathlib.Core.Path.{_≡_};
 ghost use Prim.Native.Nat.{_+_, _≤_};
 ghost use lib.Bits.{bitXor};
@@ -9,7 +9,7 @@ ghost use lib.Dec.{leb};
 ghost use lib.ListN.{length};
 ghost use Rattle.metalog.specs.Tag.{be4};
 ghost use Rattle.metalog.specs.Log.{firstPrior};
-ghost use Rattle.metalog.specs.Writer.{tagFor, Put, Begun, Puts, Ends};
+ghost use Rattle.metalog.specs.Writer.{tagFor, Put, Begun, Puts, Ends, pieceOf, PutsAll, Concludes, Writes, WritesFirst};
 use crate::checksum::SEED;
 use crate::checksum::crc;
 
@@ -135,4 +135,52 @@ impl<'a> CommitWriter<'a> {
     {
         let CommitWriter { buffer: _, used: _, prior: _ } = self;
     }
+}
+
+// An entry to be written.
+#[derive(Clone, Copy)]
+pub struct Part<'a> {
+    pub kind: u32,
+    pub id: u32,
+    pub bytes: &'a [u8],
+}
+
+// Puts all entries, up to the first that is refused.
+fn put_all(writer: &mut CommitWriter<'_>, parts: &[Part<'_>]) -> Result<(), Unwritable>
+    ensures lender { λ _. ⌜ name (now (writer .exit) .buffer) ≡ name (now (writer .entry) .buffer) ⌝ }
+    ensures puts { λ r. ⌜ PutsAll (now (now (writer .entry) .buffer)) (now (writer .entry) .used) (now (writer .entry) .prior) (map pieceOf (now (parts .entry))) r (now (now (writer .exit) .buffer)) (now (writer .exit) .used) (now (writer .exit) .prior) ⌝ }
+{
+    for part in parts {
+        writer.put(part.kind, part.id, part.bytes)?;
+    }
+    Ok(())
+}
+
+// Ends a commit whose entries are all there, and gives up one of which an entry was refused.
+fn conclude(writer: CommitWriter<'_>, put: Result<(), Unwritable>) -> Result<usize, Unwritable>
+    ensures { λ r. ⌜ Concludes (now (writer .entry .buffer)) (writer .entry .used) (writer .entry .prior) put r (now (writer .exit .0)) ⌝ }
+{
+    let CommitWriter { buffer, used, prior } = writer;
+    match put {
+        Ok(()) => finish_at(buffer, used, prior),
+        Err(reason) => Err(reason),
+    }
+}
+
+// Writes the revision word and the first commit of a block, and gives the offset of its end.
+pub fn write_first(buffer: &mut [u8], revision: u32, parts: &[Part<'_>]) -> Result<usize, Unwritable>
+    ensures { λ r. ⌜ WritesFirst (now (buffer .entry)) revision (map pieceOf (now (parts .entry))) r (now (buffer .exit)) ⌝ }
+{
+    let mut writer = CommitWriter::first(buffer, revision);
+    let put = put_all(&mut writer, parts);
+    conclude(writer, put)
+}
+
+// Writes a commit behind others, where the next tag is XORed with `prior`, and gives its length.
+pub fn write_next(buffer: &mut [u8], prior: u32, parts: &[Part<'_>]) -> Result<usize, Unwritable>
+    ensures { λ r. ⌜ Writes (now (buffer .entry)) 0 prior (map pieceOf (now (parts .entry))) r (now (buffer .exit)) ⌝ }
+{
+    let mut writer = CommitWriter::next(buffer, prior);
+    let put = put_all(&mut writer, parts);
+    conclude(writer, put)
 }

@@ -3,4 +3,4 @@ use Rattle.std.proofs.shelf.Parts.{overwrites}
 use Rattle.metalog.proofs.writer.put_bytes.Needs as need
 
 pub returns : need.returns
-returns c = record { front = search (needs, overwrites); back = search (needs, overwrites) }
+returns c = record { long = search needs; front = search (needs, overwrites); back = search (needs, overwrites) }
