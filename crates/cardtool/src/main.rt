@@ -3,7 +3,10 @@ use std::env;
 use std::error::AnyError;
 
 fn help(rt: &LibcRuntime) -> Result<(), AnyError> {
-    println!(rt, "cardtool: make and show littlefs cards\n\n  cardtool help    this text")?;
+    println!(
+        rt,
+        "cardtool: make and show littlefs cards\n\n  cardtool help    this text"
+    )?;
     Ok(())
 }
 

@@ -71,8 +71,8 @@ top-kept b i prior t u ht hp e f =
     let small : w < 2 ^ 32 = xor-lt 32 t prior (omega arith) hp in
     let word : be32 b i / 2 ^ 24 ≡ w / 2 ^ 24 = e ∙ omega arith in
     let tops : u / 2 ^ 24 ≡ t / 2 ^ 24 =
-        ap (λ x. x / 2 ^ 24) (sym (found b i prior u f .is)) ∙ xor-shr (be32 b i) prior 24 ∙ ap (λ x. bitXor x (prior / 2 ^ 24)) word ∙ sym (xor-shr w prior 24)
-        ∙ ap (λ x. x / 2 ^ 24) (twice t prior) in
+    ap (λ x. x / 2 ^ 24) (sym (found b i prior u f .is)) ∙ xor-shr (be32 b i) prior 24 ∙ ap (λ x. bitXor x (prior / 2 ^ 24)) word ∙ sym (xor-shr w prior 24)
+    ∙ ap (λ x. x / 2 ^ 24) (twice t prior) in
     omega (arith, tops)
 
 -- all that is there of a tag and its data is a front of bytes, with 0xff behind: no tag but this one is read
@@ -138,24 +138,24 @@ torn (p ∷ ps) b i prior sum pad (suc (suc (suc (suc m)))) k zs s hp small long
     let e1 : drop i b ≡ be4 w ++ (take m (bytes ++ xs) ++ fill) = e ∙ ap (λ l. be4 w ++ (take m l ++ fill)) (append-assoc bytes more (end ++ zs)) in
     ⊎-elim
     (λ within.
-        let ys = be4 w ++ take m (bytes ++ xs) in
-        inl (quiet-plain b i prior sum
-            (last-front b i prior k ys e1 (λ u f. let same = ap lengthOf (whole-tag b i prior t u (take m (bytes ++ xs) ++ fill) valid hp e1 f) in omega (arith, same, tag-length p (s .0), length-take m (bytes ++ xs))))
-            (λ u f. ap endsCommit (whole-tag b i prior t u (take m (bytes ++ xs) ++ fill) valid hp e1 f) ∙ tag-plain p (s .0))))
+    let ys = be4 w ++ take m (bytes ++ xs) in
+    inl (quiet-plain b i prior sum
+    (last-front b i prior k ys e1 (λ u f. let same = ap lengthOf (whole-tag b i prior t u (take m (bytes ++ xs) ++ fill) valid hp e1 f) in omega (arith, same, tag-length p (s .0), length-take m (bytes ++ xs))))
+    (λ u f. ap endsCommit (whole-tag b i prior t u (take m (bytes ++ xs) ++ fill) valid hp e1 f) ∙ tag-plain p (s .0))))
     (λ over.
-        let d = m - n in
-        let same : m ≡ n + d = omega arith in
-        let left = take d xs ++ fill in
-        let e2 : drop i b ≡ be4 w ++ (bytes ++ left) = e1 ∙ ap (λ l. be4 w ++ (l ++ fill)) (ap (λ q. take q (bytes ++ xs)) same ∙ take-past bytes xs d) ∙ ap (λ l. be4 w ++ l) (append-assoc bytes (take d xs) fill) in
-        let j = i + 4 + n in
-        let sum1 = crcOf sum (be4 w ++ bytes) in
-        let place : i + (4 + n) ≡ j = omega arith in
-        let e3 : drop j b ≡ left = ap (λ q. drop q b) (sym place) ∙ left-is b i (4 + n) (be4 w ++ bytes) left e2 (omega arith) in
-        let first = piece-step b i prior sum p left (s .0) hp e2 in
-        let inside : i < length b = omega (arith, length-drop i b, ap length e2) in
-        let calm : d ≡ 0 → Quiet b (at j t sum1) = λ z. quiet-behind b j k t sum1 (e3 ∙ ap (λ q. take q xs ++ fill) z) valid in
-        ⊎-elim
-        (λ q. inl (quiet-held b (at i prior sum) (at j t sum1) (readAs i p) first q))
-        (λ q. inr (single-held b (at i prior sum) (at j t sum1) i j (readAs i p) (entries j ps) first (omega arith) inside q))
-        (torn ps b j t sum1 pad d k zs (s .1) (omega (arith, valid)) small long calm e3))
+    let d = m - n in
+    let same : m ≡ n + d = omega arith in
+    let left = take d xs ++ fill in
+    let e2 : drop i b ≡ be4 w ++ (bytes ++ left) = e1 ∙ ap (λ l. be4 w ++ (l ++ fill)) (ap (λ q. take q (bytes ++ xs)) same ∙ take-past bytes xs d) ∙ ap (λ l. be4 w ++ l) (append-assoc bytes (take d xs) fill) in
+    let j = i + 4 + n in
+    let sum1 = crcOf sum (be4 w ++ bytes) in
+    let place : i + (4 + n) ≡ j = omega arith in
+    let e3 : drop j b ≡ left = ap (λ q. drop q b) (sym place) ∙ left-is b i (4 + n) (be4 w ++ bytes) left e2 (omega arith) in
+    let first = piece-step b i prior sum p left (s .0) hp e2 in
+    let inside : i < length b = omega (arith, length-drop i b, ap length e2) in
+    let calm : d ≡ 0 → Quiet b (at j t sum1) = λ z. quiet-behind b j k t sum1 (e3 ∙ ap (λ q. take q xs ++ fill) z) valid in
+    ⊎-elim
+    (λ q. inl (quiet-held b (at i prior sum) (at j t sum1) (readAs i p) first q))
+    (λ q. inr (single-held b (at i prior sum) (at j t sum1) i j (readAs i p) (entries j ps) first (omega arith) inside q))
+    (torn ps b j t sum1 pad d k zs (s .1) (omega (arith, valid)) small long calm e3))
     (cases-lt m n)

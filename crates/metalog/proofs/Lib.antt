@@ -12,3 +12,5 @@ pub mod Reading
 pub mod Puts
 pub mod Writes
 pub mod Parts
+pub mod Known
+pub mod Newer

@@ -71,7 +71,7 @@ module _ (b : List ℕ) (used prior : ℕ) (ps : List Piece) (k : ℕ) (c : List
       let front = take k ps in
       let more : take (k + 1) ps ≡ front ++ x ∷ [] = take-more ps k d h in
       let bytes : body prior (take (k + 1) ps) ≡ body prior front ++ (be4 (bitXor (tagOf x) p) ++ x .bytes) =
-          ap (body prior) more ∙ body-append prior front (x ∷ []) ∙ ap (λ l. body prior front ++ l) (body-one (lastOf prior front) x ∙ ap (λ q. be4 (bitXor (tagOf x) q) ++ x .bytes) (sym (s .prior-is))) in
+      ap (body prior) more ∙ body-append prior front (x ∷ []) ∙ ap (λ l. body prior front ++ l) (body-one (lastOf prior front) x ∙ ap (λ q. be4 (bitXor (tagOf x) q) ++ x .bytes) (sym (s .prior-is))) in
       let all : Put b e used (body prior front ++ (be4 (bitXor (tagOf x) p) ++ x .bytes)) = then (s .put) (moved (s .used-is) refl (w .2)) in
       record {
         put = moved refl (sym bytes) all;
@@ -87,16 +87,14 @@ module _ (b : List ℕ) (used prior : ℕ) (ps : List Piece) (k : ℕ) (c : List
       let front = take k ps in
       let whole : body prior ps ≡ body prior front ++ body (lastOf prior front) (drop k ps) = ap (body prior) (sym (take-append-drop k ps)) ∙ body-append prior front (drop k ps) in
       let n = length (body prior front) in
-      let part : take n (body prior ps) ≡ body prior front = ap (take n) whole ∙ take-at (body prior front) (body (lastOf prior front) (drop k ps)) n refl in
-      (
+      let part : take n (body prior ps) ≡ body prior front = ap (take n) whole ∙ take-at (body prior front) (body (lastOf prior front) (drop k ps)) n refl in (
         next-refusal ∙ ap (λ o. orElse o (writeRefusal (u + (4 + length (x .bytes))) (length b) (drop (k + 1) ps))) (w .0),
         record { many = n; put = subst (λ l. Put b l used (take n (body prior ps))) (sym (w .1)) (moved refl (sym part) (s .put)) },
       )
 
 pub put-end : {R : Type 0} (t : R) (b : List ℕ) (used prior : ℕ) (ps : List Piece) (k : ℕ) (c : List ℕ) (u p : ℕ) → Sofar b used prior ps k c u p → length ps ≤ k → PutsAll b used prior ps (Ok t) c u p
 put-end t b used prior ps k c u p s h =
-    let all = take-all k ps h in
-    (
+    let all = take-all k ps h in (
       s .refusal ∙ ap (writeRefusal u (length b)) (drop-all k ps h),
       subst (All Sound) all (s .sound),
       moved refl (ap (body prior) all) (s .put),
@@ -154,24 +152,21 @@ concluded b used prior ps (Ok t) c u p (Ok end) d a w =
     let all : Put b d used (bs ++ tail) = then (a .2) (moved (a .3) same (w .1)) in
     let fits : u + (8 + padOf u) ≤ length c = room u (length c) (w .0) in
     let long : length (take used b ++ bs) ≡ u = ap length (sym front) ∙ length-take-le u c (omega (arith, fits)) in
-    let tail-long : length tail ≡ 8 + padOf u = end-long (take used b ++ bs) (lastOf prior ps) ∙ ap (λ n. 8 + padOf n) long in
-    (
+    let tail-long : length tail ≡ 8 + padOf u = end-long (take used b ++ bs) (lastOf prior ps) ∙ ap (λ n. 8 + padOf n) long in (
       a .0 ∙ ap (endRefusal u) (sym (a .2 .long)) ∙ w .0,
       a .1,
       all,
       w .2 ∙ omega (arith, a .3, tail-long, length-append bs tail),
     )
 concluded b used prior ps (Ok t) c u p (Err e) d a w =
-    let bs = body prior ps in
-    (
+    let bs = body prior ps in (
       a .0 ∙ ap (endRefusal u) (sym (a .2 .long)) ∙ w .0,
       partly-front bs (endBytes (take used b ++ bs) (lastOf prior ps)) (bs ++ endBytes (take used b ++ bs) (lastOf prior ps)) refl (whole-front bs (subst (λ l. Put b l used bs) (sym (w .1)) (a .2))),
     )
 concluded b used prior ps (Err e) c u p (Ok end) d a w = let bad : _≡_ {A = ℕ} 0 1 = cc in absurd (omega arith)
 concluded b used prior ps (Err e) c u p (Err f) d a w =
     let bs = body prior ps in
-    let same : e ≡ f = cc in
-    (
+    let same : e ≡ f = cc in (
       a .0 ∙ ap Some same,
       partly-front bs (endBytes (take used b ++ bs) (lastOf prior ps)) (bs ++ endBytes (take used b ++ bs) (lastOf prior ps)) refl (record { many = a .1 .many; put = subst (λ l. Put b l used (take (a .1 .many) bs)) (sym (w .1)) (a .1 .put) }),
     )
@@ -215,8 +210,7 @@ few b revision ps (Err e) d short w =
 enough : (b : List ℕ) (revision : ℕ) (c : List ℕ) (ps : List Piece) (r : Result ℕ Unwritable) (d : List ℕ) → Put b c 0 (le4 revision) → Writes c 4 firstPrior ps r d → WritesFirst b revision ps r d
 enough b revision c ps (Ok end) d g w =
     let xs = encode (le4 revision) firstPrior ps in
-    let same : encode (take 4 c) firstPrior ps ≡ xs = ap (λ l. encode l firstPrior ps) (g .front) in
-    (
+    let same : encode (take 4 c) firstPrior ps ≡ xs = ap (λ l. encode l firstPrior ps) (g .front) in (
       ap (λ n. writeRefusal 4 n ps) (sym (g .long)) ∙ w .0,
       w .1,
       then g (moved refl same (w .2)),

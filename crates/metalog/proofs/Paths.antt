@@ -77,6 +77,7 @@ path-same b c e same (x ∷ xs) (at i prior sum) p s h = go (path-same b c e sam
       ap (λ (k : Step). k .item) (ec ∙ sym eb) ∙ h .0,
       subst (λ (k : Step). Path c (k .next) xs (at e p s)) (eb ∙ sym ec) rest,
     )
+
     go : Path c (step b (at i prior sum) .next) xs (at e p s) → View b i prior sum → Path c (at i prior sum) (x ∷ xs) (at e p s)
     go rest (stops eq) = absurd (no-item b (at i prior sum) x eq (h .0))
     go rest (holds t f plain eq) =

@@ -135,6 +135,7 @@ ended b h = go (cases-lt (length b) 4) (tail (length b) b (start b))
   where
     some : 0 < length (commitsOf [] (itemsOf b))
     some = subst (λ xs. 0 < length xs) (log-commits (le32 b 0) (commitsOf [] (itemsOf b))) h
+
     go : (length b < 4) ⊎ (4 ≤ length b) → Unfinished (itemsOf b) ⊎ Finished b (start b) (itemsOf b) → Ended b
     go (inl short) t = absurd (omega (arith, some, ap (λ xs. length (commitsOf [] xs)) (short-block b short)))
     go (inr long) (inl u) = absurd (omega (arith, some, ap length (u .none [])))
@@ -159,8 +160,8 @@ module _ (b c : List ℕ) (some : 0 < length (logOf b .commits)) (same : Same (e
       let far : 4 + length (k .front) ≤ e = path-far b (k .front) 4 firstPrior (crcOf seed (take 4 b)) e p seed (k .path) in
       let fronts : take 4 b ≡ take 4 c = sym (take-take 4 e b (omega arith)) ∙ ap (take 4) (same .front) ∙ take-take 4 e c (omega arith) in
       let path : Path c (start c) (k .front) (at e p seed) =
-          subst (λ d. Path c d (k .front) (at e p seed)) (ap (λ xs. at 4 firstPrior (crcOf seed xs)) fronts ∙ sym (start-at c (omega (arith, same .long, k .begins))))
-          (path-same b c e same (k .front) (at 4 firstPrior (crcOf seed (take 4 b))) p seed (k .path)) in
+      subst (λ d. Path c d (k .front) (at e p seed)) (ap (λ xs. at 4 firstPrior (crcOf seed xs)) fronts ∙ sym (start-at c (omega (arith, same .long, k .begins))))
+      (path-same b c e same (k .front) (at 4 firstPrior (crcOf seed (take 4 b))) p seed (k .path)) in
       ap (λ n. commitsOf [] (items n c (start c))) long
       ∙ ap (commitsOf []) (path-items f c (start c) (k .front) (at e p seed) path)
       ∙ commits-join [] (k .front) (items f c (at e p seed))

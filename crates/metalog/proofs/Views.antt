@@ -52,9 +52,11 @@ view b i prior sum = go (tagAt b i prior) refl
     shut : (t : ℕ) → tagAt b i prior ≡ Some t → endsCommit t ≡ true → (v : Bool) → closes b i sum t ≡ v → View b i prior sum
     shut t e last true right = ends t e last right (step-ends b i prior sum t e last right)
     shut t e last false wrong = stops (step-wrong b i prior sum t e last wrong)
+
     by-role : (t : ℕ) → tagAt b i prior ≡ Some t → (v : Bool) → endsCommit t ≡ v → View b i prior sum
     by-role t e true last = shut t e last (closes b i sum t) refl
     by-role t e false plain = holds t e plain (step-holds b i prior sum t e plain)
+
     go : (o : Option ℕ) → tagAt b i prior ≡ o → View b i prior sum
     go None e = stops (step-none b i prior sum e)
     go (Some t) e = by-role t e (endsCommit t) refl

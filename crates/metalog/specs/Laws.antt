@@ -8,6 +8,8 @@ use Rattle.std.specs.shelf.Lists.{All}
 use Rattle.metalog.specs.Tag.{le4}
 use Rattle.metalog.specs.Log.{Entry, Log, logOf, emptyLog, firstPrior, endOf}
 use Rattle.metalog.specs.Commit.{Piece, Sound, encode, entries}
+use Rattle.metalog.specs.Known.{KnownPoints}
+use Rattle.metalog.specs.Revision.{RevisionLaws}
 
 -- a block that begins with some bytes, and is erased behind them
 abbrev pub erasedBehind : List ℕ → ℕ → List ℕ
@@ -60,3 +62,13 @@ AppendTorn = (b : List ℕ) (ps : List Piece) (m : ℕ) → Appendable b → All
 -- A block whose first half is 0xff, as an erase that stopped half way leaves it, has no finished commit.
 abbrev pub HalfErased : Type 0
 HalfErased = (b : List ℕ) → 24 ≤ length b → take (length b / 2) b ≡ replicate (length b / 2) 0xff → logOf b ≡ emptyLog
+
+-- All laws of the log of one block.
+pub record LogLaws : Type 0 where
+  pub first-reads : FirstReads
+  pub first-torn : FirstTorn
+  pub append-reads : AppendReads
+  pub append-torn : AppendTorn
+  pub half-erased : HalfErased
+  pub revisions : RevisionLaws
+  pub known : KnownPoints

@@ -70,7 +70,9 @@ fn tag_at(block: &[u8], at: usize, prior: u32) -> Option<Tag>
     if left < 4 {
         return None;
     }
-    let tag = Tag { word: big_endian(block, at) ^ prior };
+    let tag = Tag {
+        word: big_endian(block, at) ^ prior,
+    };
     if tag.word >= 0x8000_0000 || left - 4 < tag.length() {
         return None;
     }
@@ -95,7 +97,12 @@ impl<'a> LogReader<'a> {
         } else {
             State::Inside(crc(SEED, &block[0..4]))
         };
-        LogReader { block, at: 4, prior: 0xffff_ffff, state }
+        LogReader {
+            block,
+            at: 4,
+            prior: 0xffff_ffff,
+            state,
+        }
     }
 
     // The next tag of a commit or the end of one, until the log ends.
@@ -132,7 +139,12 @@ impl<'a> LogReader<'a> {
         self.state = State::Inside(crc(sum, &self.block[offset..end]));
         self.at = end;
         self.prior = tag.next_prior();
-        Item::Held(Entry { kind: tag.kind(), id: tag.id(), offset, data })
+        Item::Held(Entry {
+            kind: tag.kind(),
+            id: tag.id(),
+            offset,
+            data,
+        })
     }
 
     // Ends a commit where its checksum is right, else stops.
@@ -176,7 +188,12 @@ fn count(block: &[u8]) -> (usize, End)
 {
     let mut reader = LogReader::new(block);
     let mut commits = 0;
-    let mut end = End { offset: 0, prior: 0xffff_ffff, tag: 0, id: 0x3ff };
+    let mut end = End {
+        offset: 0,
+        prior: 0xffff_ffff,
+        tag: 0,
+        id: 0x3ff,
+    };
     while let Some(item) = reader.next() {
         match item {
             Item::Held(_) => {}
@@ -196,7 +213,15 @@ impl Survey {
         ensures end { λ r. ⌜ endFor (r .end) ≡ endOf (now (block .entry)) ⌝ }
     {
         let (commits, end) = count(block);
-        let revision = if commits > 0 && block.len() >= 4 { little_endian(block, 0) } else { 0 };
-        Survey { revision, commits, end }
+        let revision = if commits > 0 && block.len() >= 4 {
+            little_endian(block, 0)
+        } else {
+            0
+        };
+        Survey {
+            revision,
+            commits,
+            end,
+        }
     }
 }

@@ -1,6 +1,6 @@
 // The revision of a block: of the two blocks of a pair, the one with the newer revision counts.
 ghost use mathlib.Core.Path.{_≡_};
-ghost use Rattle.metalog.specs.Revision.{newer, following, RevisionLaws};
+ghost use Rattle.metalog.specs.Revision.{newer, following};
 
 #[derive(Clone, Copy, PartialEq, Eq, Debug)]
 pub struct Revision {
@@ -20,13 +20,8 @@ impl Revision {
     pub fn following(self) -> Revision
         ensures { λ r. ⌜ r .word ≡ following (self .word) ⌝ }
     {
-        Revision { word: self.word.wrapping_add(1) }
+        Revision {
+            word: self.word.wrapping_add(1),
+        }
     }
-}
-
-// The laws of the order: the one that follows is newer, of two at most one is, and only opposite ones have no order.
-pub fn revisions_are_ordered() -> u8
-    ensures { λ _. ⌜ RevisionLaws ⌝ }
-{
-    0
 }

@@ -7,50 +7,54 @@ ghost use Rattle.metalog.specs.Reader.{roleOf};
 ghost use Rattle.metalog.specs.Tag.{typeOf, idOf, lengthOf, endsCommit, nextPrior, be32, le32};
 
 // What a tag does to the commit in which it stands.
-#[derive(Clone, Copy, PartialEq, Eq, Debug)]
-pub enum Role {
+#[derive(Clone, Copy)]
+pub(crate) enum Role {
     Holds,
     Ends,
 }
 
-#[derive(Clone, Copy, PartialEq, Eq, Debug)]
-pub struct Tag {
+#[derive(Clone, Copy)]
+pub(crate) struct Tag {
     pub word: u32,
 }
 
 impl Tag {
-    pub fn kind(self) -> u32
+    pub(crate) fn kind(self) -> u32
         ensures { λ r. ⌜ r ≡ typeOf (self .word) ⌝ }
     {
         (self.word >> 20) & 0x7ff
     }
 
-    pub fn id(self) -> u32
+    pub(crate) fn id(self) -> u32
         ensures { λ r. ⌜ r ≡ idOf (self .word) ⌝ }
     {
         (self.word >> 10) & 0x3ff
     }
 
-    pub fn length(self) -> usize
+    pub(crate) fn length(self) -> usize
         ensures { λ r. ⌜ r ≡ lengthOf (self .word) ⌝ }
     {
         (self.word & 0x3ff) as usize
     }
 
-    pub fn ends_commit(self) -> bool
+    pub(crate) fn ends_commit(self) -> bool
         ensures { λ r. ⌜ r ≡ endsCommit (self .word) ⌝ }
     {
         self.kind() == 0x500 || self.kind() == 0x501
     }
 
-    pub fn role(self) -> Role
+    pub(crate) fn role(self) -> Role
         ensures { λ r. ⌜ r ≡ roleOf (self .word) ⌝ }
     {
-        if self.ends_commit() { Role::Ends } else { Role::Holds }
+        if self.ends_commit() {
+            Role::Ends
+        } else {
+            Role::Holds
+        }
     }
 
     // What the tag behind this one is stored XORed with.
-    pub fn next_prior(self) -> u32
+    pub(crate) fn next_prior(self) -> u32
         ensures { λ r. ⌜ r ≡ nextPrior (self .word) ⌝ }
     {
         if self.ends_commit() {

@@ -90,7 +90,11 @@ impl<'a> CommitWriter<'a> {
         if buffer.len() >= 4 {
             put_bytes(buffer, 0, &revision.to_le_bytes());
         }
-        CommitWriter { buffer, used: 4, prior: 0xffff_ffff }
+        CommitWriter {
+            buffer,
+            used: 4,
+            prior: 0xffff_ffff,
+        }
     }
 
     // A commit behind others: its first tag is XORed with `prior`.
@@ -99,7 +103,11 @@ impl<'a> CommitWriter<'a> {
         ensures lender { λ r. ⌜ name (r .buffer) ≡ name (buffer .entry) ⌝ }
         ensures buffer { λ r. ⌜ now (r .buffer) ≡ now (buffer .entry) ⌝ }
     {
-        CommitWriter { buffer, used: 0, prior }
+        CommitWriter {
+            buffer,
+            used: 0,
+            prior,
+        }
     }
 
     // One entry more, behind those that are there.
@@ -125,7 +133,11 @@ impl<'a> CommitWriter<'a> {
     pub fn finish(self) -> Result<usize, Unwritable>
         ensures { λ r. ⌜ Ends (now (self .entry .buffer)) (self .entry .used) (self .entry .prior) r (now (self .exit .0)) ⌝ }
     {
-        let CommitWriter { buffer, used, prior } = self;
+        let CommitWriter {
+            buffer,
+            used,
+            prior,
+        } = self;
         finish_at(buffer, used, prior)
     }
 
@@ -133,7 +145,11 @@ impl<'a> CommitWriter<'a> {
     pub fn abandon(self)
         ensures { λ _. ⌜ now (self .exit .0) ≡ now (self .entry .buffer) ⌝ }
     {
-        let CommitWriter { buffer: _, used: _, prior: _ } = self;
+        let CommitWriter {
+            buffer: _,
+            used: _,
+            prior: _,
+        } = self;
     }
 }
 
@@ -160,7 +176,11 @@ fn put_all(writer: &mut CommitWriter<'_>, parts: &[Part<'_>]) -> Result<(), Unwr
 fn conclude(writer: CommitWriter<'_>, put: Result<(), Unwritable>) -> Result<usize, Unwritable>
     ensures { λ r. ⌜ Concludes (now (writer .entry .buffer)) (writer .entry .used) (writer .entry .prior) put r (now (writer .exit .0)) ⌝ }
 {
-    let CommitWriter { buffer, used, prior } = writer;
+    let CommitWriter {
+        buffer,
+        used,
+        prior,
+    } = writer;
     match put {
         Ok(()) => finish_at(buffer, used, prior),
         Err(reason) => Err(reason),
@@ -168,7 +188,11 @@ fn conclude(writer: CommitWriter<'_>, put: Result<(), Unwritable>) -> Result<usi
 }
 
 // Writes the revision word and the first commit of a block, and gives the offset of its end.
-pub fn write_first(buffer: &mut [u8], revision: u32, parts: &[Part<'_>]) -> Result<usize, Unwritable>
+pub fn write_first(
+    buffer: &mut [u8],
+    revision: u32,
+    parts: &[Part<'_>],
+) -> Result<usize, Unwritable>
     ensures { λ r. ⌜ WritesFirst (now (buffer .entry)) revision (map pieceOf (now (parts .entry))) r (now (buffer .exit)) ⌝ }
 {
     let mut writer = CommitWriter::first(buffer, revision);

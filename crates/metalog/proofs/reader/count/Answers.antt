@@ -12,15 +12,17 @@ use Rattle.metalog.proofs.reader.count.Needs.{In-Some}
 pub loop-item-holds : need.loop-item-holds
 loop-item-holds c =
     let b = c .args .block .now in
-    let at-start = c .new-reader .ensures .cursor in
-    (c .new-reader .ensures .block, record {
-      fuel = length b;
-      begun = [];
-      enough = omega arith;
-      few = omega arith;
-      count = omega (arith, ap (λ k. length (commitsOf [] (items (length b) b k))) at-start);
-      last = ap (λ k. endFrom noEnd (items (length b) b k)) at-start;
-    })
+    let at-start = c .new-reader .ensures .cursor in (
+      c .new-reader .ensures .block,
+      record {
+        fuel = length b;
+        begun = [];
+        enough = omega arith;
+        few = omega arith;
+        count = omega (arith, ap (λ k. length (commitsOf [] (items (length b) b k))) at-start);
+        last = ap (λ k. endFrom noEnd (items (length b) b k)) at-start;
+      },
+    )
 
 -- what `next` told of the reader's block holds of the block
 gave : (c : In-Some) (x : Item) → itemOf (c .in-Some .item) ≡ x → Gave (c .args .block .now) (cursorOf (c .loop-item .reader)) (cursorOf (c .next .last .self)) (c .loop-item .reader .at) (c .next .last .self .at) x

@@ -25,10 +25,11 @@ returns c =
     let room : i + (8 + pad) ≤ length b = leb-true (i + (8 + pad)) (length b) (sym (c .if-not-has-room .ensures tt)) in
     let tag : 0x500ffc04 + pad ≡ ending (padOf i) = omega (arith, same) in
     let none : i + 4 - 0 ≡ i + 4 = omega arith in
-    let all : pad - 0 ≡ padOf i = omega (arith, same) in
-    (end-accepted i (length b) pad same (sym (c .if-not-has-room .ensures tt)),
+    let all : pad - 0 ≡ padOf i = omega (arith, same) in (
+      end-accepted i (length b) pad same (sym (c .if-not-has-room .ensures tt)),
       end-put b (c .put-bytes .last .buffer) (c .put-bytes-2 .last .buffer) (c .put-bytes-3 .last .buffer) i (c .args .prior) (length-take-le i b (omega (arith, room)))
-      (moved refl (c .to-be-bytes .ensures ∙ ap (λ t. be4 (bitXor t (c .args .prior))) tag) (c .put-bytes .ensures))
-      (moved refl (c .to-le-bytes .ensures ∙ ap le4 (c .crc-sum .ensures ∙ ap (λ n. crcOf seed (take n (c .put-bytes .last .buffer))) none)) (c .put-bytes-2 .ensures))
-      (moved refl (ap (λ n. take n (replicate 16 0xff)) all ∙ take-replicate (padOf i) 16 0xff (omega arith)) (c .put-bytes-3 .ensures)),
-      ap (λ p. i + (8 + p)) same)
+          (moved refl (c .to-be-bytes .ensures ∙ ap (λ t. be4 (bitXor t (c .args .prior))) tag) (c .put-bytes .ensures))
+          (moved refl (c .to-le-bytes .ensures ∙ ap le4 (c .crc-sum .ensures ∙ ap (λ n. crcOf seed (take n (c .put-bytes .last .buffer))) none)) (c .put-bytes-2 .ensures))
+          (moved refl (ap (λ n. take n (replicate 16 0xff)) all ∙ take-replicate (padOf i) 16 0xff (omega arith)) (c .put-bytes-3 .ensures)),
+      ap (λ p. i + (8 + p)) same,
+    )

@@ -27,10 +27,10 @@ returns-else-commits-gt0 c =
     let cs : List (List Entry) = commitsOf [] (itemsOf b) in
     let told = c .count-commits .ensures in
     let none : length cs ≡ 0 =
-        elim (c .else-commits-gt0 .either) [
-          inl h ↦ ap (λ xs. length (commitsOf [] xs)) (short-block b (h .1))
-        | inr h ↦ omega (arith, told .commits, h)
-        ] in
+    elim (c .else-commits-gt0 .either) [
+      | inl h ↦ ap (λ xs. length (commitsOf [] xs)) (short-block b (h .1))
+      | inr h ↦ omega (arith, told .commits, h)
+    ] in
     record {
       revision = sym (ap (λ (l : Log). l .revision) (log-none (le32 b 0) cs none));
       commits = told .commits ∙ sym (ap length (log-commits (le32 b 0) cs));
