@@ -8,6 +8,8 @@ ghost use Rattle.flash.specs.Card.{Card, Shaped, isGood};
 ghost use Rattle.flash.specs.Write.{numberOf, program, erase};
 ghost use Rattle.flash.specs.History.{Event};
 ghost use Rattle.flash.specs.Device.{Reads, Answers, PowersUp};
+mod erased;
+pub use erased::is_erased;
 
 // Why a device refuses a request.
 #[derive(Clone, Copy, PartialEq, Eq, Debug)]
