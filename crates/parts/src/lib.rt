@@ -1,0 +1,6 @@
+// Two modelled parts for hosts and tests: a memory board that never goes dark, and a NOR chip that goes dark in a given
+// write and tears it at half. Both hold their cells in one run of bytes, made at creation; no later call allocates.
+mod cells;
+mod unmade;
+
+pub use unmade::Unmade;
