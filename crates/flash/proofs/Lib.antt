@@ -1,1 +1,4 @@
 pub mod Blank
+pub mod Events
+pub mod Refusals
+pub mod Sequences

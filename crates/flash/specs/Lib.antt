@@ -4,3 +4,4 @@ pub mod History
 pub mod Device
 pub mod Runs
 pub mod Image
+pub mod Joins

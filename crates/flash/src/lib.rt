@@ -9,6 +9,7 @@ ghost use Rattle.flash.specs.Write.{numberOf, program, erase};
 ghost use Rattle.flash.specs.History.{Event};
 ghost use Rattle.flash.specs.Device.{Reads, Answers, PowersUp};
 mod erased;
+pub mod laws;
 pub use erased::is_erased;
 
 // Why a device refuses a request.
