@@ -2,3 +2,5 @@ pub mod Blank
 pub mod Events
 pub mod Refusals
 pub mod Sequences
+pub mod Units
+pub mod Filling

@@ -5,3 +5,4 @@ pub mod Device
 pub mod Runs
 pub mod Image
 pub mod Joins
+pub mod Contents
