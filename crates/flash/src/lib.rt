@@ -9,7 +9,10 @@ ghost use Rattle.flash.specs.Write.{numberOf, program, erase};
 ghost use Rattle.flash.specs.History.{Event};
 ghost use Rattle.flash.specs.Device.{Reads, Answers, PowersUp};
 mod erased;
+pub mod laws;
+mod writing;
 pub use erased::is_erased;
+pub use writing::UNIT;
 
 // Why a device refuses a request.
 #[derive(Clone, Copy, PartialEq, Eq, Debug)]

@@ -1,0 +1,46 @@
+// Writing more than one unit: the units of a content upward through a block, and a whole block anew.
+// Each call is refused before its first write where that can be known, and else stops at the first write that is refused
+// or in which the power goes.
+ghost use mathlib.Core.Bool.{true, false};
+ghost use mathlib.Core.List.{_∷_};
+ghost use mathlib.Core.Path.{_≡_};
+ghost use Prim.Native.Nat.{_+_, _%_, _^_, _<_};
+ghost use lib.ListN.{length};
+ghost use Rattle.flash.specs.Write.{erase};
+ghost use Rattle.flash.specs.Runs.{Runs, Tried, programs, unfit};
+ghost use Rattle.flash.specs.Contents.{Pasted, Unhindered, isFree, rewrites, WroteBlock};
+use super::ReadableDevice;
+use super::Refusal;
+use super::WritableDevice;
+
+// The unit of every program: this many bytes, at a multiple of this offset.
+pub const UNIT: usize = 16;
+
+// Why writing so many bytes behind an offset is refused before any write is asked: the card is dark, or they are no whole
+// number of units that fit into a block.
+fn reason_unfit<D: ReadableDevice>(device: &D, at: u32, count: usize) -> Option<Refusal>
+    ensures { λ r. ⌜ r ≡ unfit (meaning (now (device .entry))) at count ⌝ }
+{
+    if device.is_dark() {
+        return Some(Refusal::Dark);
+    }
+    let size = device.block_size() as usize;
+    if count % UNIT != 0 || count > size || at as usize > size - count {
+        return Some(Refusal::Outside);
+    }
+    None
+}
+
+// Programs the units of a content upward from an offset.
+fn program_each<D: WritableDevice>(device: &mut D, block: u32, at: u32, content: &[u8]) -> Result<(), Refusal>
+    requires { ⌜ length (now content) % 16 ≡ 0 ⌝ }
+    requires { ⌜ at + length (now content) < 2 ^ 32 ⌝ }
+    ensures { λ r. ⌜ Runs (programs block at (now (content .entry))) (D·ReadableDevice .meaning (now (device .entry))) r (D·ReadableDevice .meaning (now (device .exit))) (history (now (device .entry))) (history (now (device .exit))) ⌝ }
+{
+    let mut done = 0;
+    while done < content.len() {
+        device.program(block, at + done as u32, &content[done..done + UNIT])?;
+        done += UNIT;
+    }
+    Ok(())
+}
