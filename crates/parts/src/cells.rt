@@ -7,6 +7,7 @@ ghost use lib.Dec.{eqb, ltb, leb};
 ghost use lib.ListN.{length, getD, set, replicate};
 ghost use lib.Seq.{paste};
 ghost use Rattle.std.specs.Of.Vec.{vec-items};
+ghost use Rattle.std.specs.Vec.{made};
 ghost use Rattle.flash.specs.Device.{Reads};
 ghost use Rattle.flash.specs.Image.{blocksOf};
 ghost use Rattle.flash.specs.Write.{program, erase, part as partOf, refusal};
@@ -56,6 +57,25 @@ impl Cells {
             Ok(bytes) => Ok(Cells { bytes, size, count }),
             Err(_) => Err(Unmade::Memory),
         }
+    }
+
+    pub fn size(&self) -> u32
+        ensures { λ r. ⌜ r ≡ now (self .entry) .size ⌝ }
+    {
+        self.size
+    }
+
+    pub fn count(&self) -> u32
+        ensures { λ r. ⌜ r ≡ now (self .entry) .count ⌝ }
+    {
+        self.count
+    }
+
+    // The whole run of bytes.
+    pub fn bytes(&self) -> &[u8]
+        ensures { λ r. ⌜ now r ≡ vec-items (now (self .entry) .bytes) ⌝ }
+    {
+        &self.bytes
     }
 
     // Where the byte at an offset of a block lies in the run.
@@ -110,7 +130,8 @@ impl Cells {
         at: u32,
         unit: &[u8],
     ) -> Result<(), Refusal>
-        ensures { λ r. ⌜ ((good : List Bool) → getD good block false ≡ «is_good» → Checks (refusal (card (now (self .entry) .size) (now (self .entry) .count) (vec-items (now (self .entry) .bytes)) good false) (program block at (now (unit .entry)))) r) ⌝ }
+        ensures why { λ r. ⌜ ((good : List Bool) → getD good block false ≡ «is_good» → Checks (refusal (card (now (self .entry) .size) (now (self .entry) .count) (vec-items (now (self .entry) .bytes)) good false) (program block at (now (unit .entry)))) r) ⌝ }
+        ensures inside { λ r. ⌜ made r (λ _. (block < now (self .entry) .count) × (length (now (unit .entry)) ≡ 16) × (at + 16 ≤ now (self .entry) .size)) ⌝ }
     {
         if !self.is_unit(block, at, unit.len()) {
             return Err(Refusal::Outside);
@@ -126,7 +147,8 @@ impl Cells {
 
     // Why an erase is refused, on a card of these cells that is not dark and on which the block is good or not.
     pub fn check_erase(&self, is_good: bool, block: u32) -> Result<(), Refusal>
-        ensures { λ r. ⌜ ((good : List Bool) → getD good block false ≡ «is_good» → Checks (refusal (card (now (self .entry) .size) (now (self .entry) .count) (vec-items (now (self .entry) .bytes)) good false) (erase block)) r) ⌝ }
+        ensures why { λ r. ⌜ ((good : List Bool) → getD good block false ≡ «is_good» → Checks (refusal (card (now (self .entry) .size) (now (self .entry) .count) (vec-items (now (self .entry) .bytes)) good false) (erase block)) r) ⌝ }
+        ensures inside { λ r. ⌜ made r (λ _. block < now (self .entry) .count) ⌝ }
     {
         if block >= self.count {
             return Err(Refusal::Outside);
