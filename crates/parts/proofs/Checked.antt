@@ -25,6 +25,11 @@ part-lies size count b at n xs h w e =
     same-lists _ _ (search (needs, places)) (λ k d _. grind (arith, places))
     ∙ ap (λ ys. part ys at n) (sym (block-lies size count xs b h))
 
+-- a dark card refuses every read
+pub read-dark : (c : Card) (b at n : ℕ) → c .dark ≡ true → readRefusal c b at n ≡ Some Dark
+unfolding readRefusal
+read-dark c b at n h = grind (arith, tells)
+
 -- a read is refused exactly if it reaches outside
 pub read-outside : (size count b at n : ℕ) (xs : List ℕ) (good : List Bool) → (ltb b count && leb (at + n) size) ≡ false → readRefusal (card size count xs good false) b at n ≡ Some Outside
 unfolding readRefusal
