@@ -76,6 +76,6 @@ pub impl WritableDevice for NorChip as NorChipWrite {
         ensures answers { λ _. ⌜ PowersUp (stateOf (now (self .entry)) .card) (stateOf (now (self .exit)) .card) (λ _. Unit {0}) (λ _. Unit {0}) ⌝ }
         ensures exact { λ _. ⌜ stateOf (now (self .exit)) ≡ poweredUp (stateOf (now (self .entry))) ⌝ }
     {
-        self.power.dark = false;
+        self.power.restore();
     }
 }

@@ -65,7 +65,7 @@ impl NorChip {
     pub fn go_dark_at(&mut self, write: u32)
         ensures { λ _. ⌜ stateOf (now (self .exit)) ≡ chip (stateOf (now (self .entry)) .card) write ⌝ }
     {
-        self.power.left = write;
+        self.power.choose(write);
     }
 
     // In which of the writes to come the power goes, counted from 1; 0 where it stays.
