@@ -1,3 +1,4 @@
+-- No byte is written yet, and one byte more.
 use mathlib.Core.List.{[]}
 use native.Mathlib.Omega.{arith}
 use Rattle.std.proofs.shelf.Edits.{paste-none, fill-from-more}

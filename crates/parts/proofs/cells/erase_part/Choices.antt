@@ -1,3 +1,4 @@
+-- After i turns the first i bytes are 0xff.
 use mathlib.Core.Path.{_≡_}
 use lib.ListN.{replicate}
 use lib.Seq.{paste}

@@ -1,3 +1,4 @@
+-- What a copy into a part of a slice leaves is a paste.
 use borrow.Author.Needs.{needs}
 use Rattle.std.proofs.shelf.Parts.{putMid-paste}
 use native.Mathlib.Omega.{arith}

@@ -1,3 +1,4 @@
+-- Each way out is one reason to refuse an erase, and the last is none.
 use mathlib.Core.Path.{_∙_}
 use borrow.Author.Needs.{needs}
 use Rattle.parts.proofs.Checked.{erase-outside, erase-bad, erase-passes}

@@ -1,3 +1,4 @@
+-- Each way out is one reason to refuse a program, and the last is none.
 use mathlib.Core.Path.{sym, ap, _∙_}
 use Rattle.flash.specs.Write.{isErased}
 use borrow.Author.Needs.{needs}

@@ -1,3 +1,4 @@
+-- The bytes lie within the run, the run keeps its length, and the block is replaced.
 use mathlib.Core.Path.{_≡_, ap, _∙_}
 use Prim.Native.Nat.{ℕ}
 use native.Mathlib.Omega.{arith}

@@ -1,3 +1,4 @@
+-- The part lies within the run, and is that part of the block.
 use mathlib.Core.Path.{_≡_, ap, sym, _∙_}
 use native.Mathlib.Omega.{arith}
 use Prim.Native.Nat.{_+_, _-_, _≤_}

@@ -1,3 +1,4 @@
+-- The part lies within the run, the run keeps its length, and the block is replaced.
 use mathlib.Core.Path.{_≡_, ap, _∙_, subst}
 use native.Mathlib.Omega.{arith}
 use lib.ListN.{length}

@@ -1,3 +1,4 @@
+-- Refused outside; else the bytes of the block.
 use mathlib.Core.Path.{refl, sym, ap, _∙_}
 use native.Mathlib.Omega.{arith}
 use borrow.Author.Needs.{needs}

@@ -1,3 +1,4 @@
+-- The cells are the card's image.
 use Rattle.parts.proofs.Cards.{card-image}
 use Rattle.parts.proofs.memory.MemoryBoard.bytes.Needs as need
 

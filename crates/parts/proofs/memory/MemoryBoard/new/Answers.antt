@@ -1,3 +1,4 @@
+-- Cells of 0xff are an erased card.
 use mathlib.Core.Bool.{true}
 use mathlib.Core.Path.{ap}
 use lib.ListN.{replicate}

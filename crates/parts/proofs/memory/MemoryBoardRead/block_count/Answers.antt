@@ -1,6 +1,7 @@
-use mathlib.Core.Path.{sym, _∙_}
+-- There are as many blocks as the cells count.
+use borrow.Author.Needs.{needs}
 use Rattle.flash.proofs.Images.{length-blocks}
 use Rattle.parts.proofs.memory.MemoryBoardRead.block_count.Needs as need
 
 pub returns : need.returns
-returns c = c .count .ensures ∙ sym (length-blocks _ _ _)
+returns c = search (needs, length-blocks)

@@ -1,3 +1,4 @@
+-- All blocks are good, and those past the last are none.
 use mathlib.Core.Path.{sym, ap, _∙_}
 use lib.Dec.{ltb}
 use Rattle.parts.proofs.Cards.{all-good}

@@ -1,3 +1,4 @@
+-- The cells' length gives the card its shape.
 use lib.ListN.{length-replicate}
 use Rattle.parts.proofs.Cards.{card-shaped}
 use Rattle.parts.proofs.memory.MemoryBoardRead.the-impl.Needs as need

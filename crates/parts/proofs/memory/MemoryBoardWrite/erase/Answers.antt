@@ -1,3 +1,4 @@
+-- What passed its checks is erased, and the marks stay.
 use mathlib.Core.Bool.{true, false}
 use mathlib.Core.Path.{sym, ap, _∙_}
 use lib.ListN.{replicate}

@@ -1,3 +1,4 @@
+-- One mark for each block, and cells of 0xff are an erased card.
 use mathlib.Core.Bool.{not}
 use mathlib.Core.Path.{sym, ap, _∙_}
 use lib.ListN.{length}

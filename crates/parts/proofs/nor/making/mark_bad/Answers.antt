@@ -1,3 +1,4 @@
+-- None is marked yet; one more is marked, or names no block; all are marked.
 use mathlib.Core.Path.{refl, sym, subst}
 use Prim.Native.Nat.{_+_}
 use lib.ListN.{getD}

@@ -1,3 +1,4 @@
+-- After i turns the first i listed blocks are marked.
 use Rattle.parts.proofs.Marks.{Marked}
 use Rattle.parts.proofs.nor.making.mark_bad.Given as given
 

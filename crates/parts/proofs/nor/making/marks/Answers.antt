@@ -1,3 +1,4 @@
+-- The marks that the slice was left with are those of the Vec.
 use mathlib.Core.Path.{ap, _∙_}
 use Rattle.std.proofs.shelf.Lists.{refilled-is}
 use Rattle.parts.specs.Chip.{goodBut}

@@ -1,3 +1,4 @@
+-- A number past the marks names no block.
 use mathlib.Core.Bool.{false}
 use mathlib.Core.Path.{sym, _∙_}
 use native.Mathlib.Omega.{arith}

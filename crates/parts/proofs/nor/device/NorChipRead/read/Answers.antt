@@ -1,3 +1,4 @@
+-- A dark chip refuses; what else happens is what the cells do.
 use mathlib.Core.Path.{refl}
 use Rattle.parts.proofs.Checked.{read-dark}
 use Rattle.parts.proofs.nor.device.NorChipRead.read.Needs as need

@@ -1,3 +1,4 @@
+-- The cells' length and the number of marks give the card its shape.
 use Rattle.parts.proofs.Cards.{card-shaped}
 use Rattle.parts.proofs.nor.device.NorChipRead.the-impl.Needs as need
 

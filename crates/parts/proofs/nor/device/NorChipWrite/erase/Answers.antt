@@ -1,3 +1,4 @@
+-- A dark chip refuses; a write that passed its checks is torn at half or done.
 use mathlib.Core.Logic.{inl}
 use mathlib.Core.Path.{refl, sym, ap}
 use Prim.Native.Nat.{_/_}

@@ -1,5 +1,7 @@
+-- A dark chip refuses; a write that passed its checks is torn at half or done.
 use mathlib.Core.Logic.{inl}
 use mathlib.Core.Path.{refl, sym}
+use lib.ListN.{take}
 use Rattle.std.specs.Of.Vec.{vec-items}
 use Rattle.flash.proofs.Refusals.{dark-refuses}
 use Rattle.parts.proofs.Cards.{program-done}
@@ -17,7 +19,8 @@ returns-then-spend c =
     let good = vec-items (self .good) in
     let checked = c .in-Continue-check-program .ensures tt in
     let spent = c .if-spend .ensures tt in
-    let left = program-torn _ _ _ _ _ _ (c .args .unit .now) _ _ _ good (self .power .dark) (checked .inside .1) refl (c .put .ensures) in
+    let after = c .put .last .self in
+    let left = program-torn (self .cells .size) (self .cells .count) (c .args .block) (c .args .at) (after .size) (after .count) (c .args .unit .now) (take 8 (c .args .unit .now)) (vec-items (self .cells .bytes)) (vec-items (after .bytes)) good (self .power .dark) (checked .inside .1) refl (c .put .ensures) in
     let both = cut-exactly _ _ _ _ _ _ _ _ _ _ _ _ (self .cells .whole) (self .marked) (c .if-self .left) (checked .why good (sym (c .is-good .ensures))) (spent .goes) (spent .left) (spent .dark) left in
     record { answers = both .0; exact = both .1 }
 
