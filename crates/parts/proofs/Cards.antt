@@ -1,17 +1,17 @@
 -- A run of bytes as a card: its shape, the erased card, and the card after a change of one block.
-use mathlib.Core.Path.{_≡_, refl, sym, ap, _∙_}
+use mathlib.Core.Path.{_≡_, sym, ap, _∙_}
 use mathlib.Core.List.{List, []}
 use mathlib.Core.Bool.{Bool, true, false}
-use Prim.Native.Nat.{ℕ, _+_, _*_, _<_, _≤_}
+use Prim.Native.Nat.{ℕ, _*_, _<_}
 use native.Mathlib.Omega.{arith}
 use lib.Dec.{ltb}
-use lib.ListN.{length, getD, set, take, drop, replicate, length-replicate}
+use lib.ListN.{length, getD, replicate, length-replicate}
 use lib.Seq.{paste}
 use borrow.Author.Needs.{needs}
 use Rattle.std.proofs.shelf.Lists.{places, same-lists, getD-replicate, getD-past}
 use Rattle.std.proofs.shelf.Tests.{cases-lt, lt-ltb, le-ltb}
 use mathlib.Core.Logic.{inl, inr}
-use Rattle.flash.specs.Card.{Card, Shaped, bytes, put}
+use Rattle.flash.specs.Card.{Shaped, bytes, put}
 use Rattle.flash.specs.Image.{blocksOf}
 use Rattle.flash.specs.Write.{program, erase, written}
 use Rattle.flash.proofs.Images.{length-blocks, length-block, blocks-replicate}

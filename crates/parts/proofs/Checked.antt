@@ -1,7 +1,7 @@
 -- Why a request to a card that a run of bytes holds is refused, from what the code tests; and which bytes a read gets.
-use mathlib.Core.Path.{_≡_, refl, sym, ap, _∙_}
+use mathlib.Core.Path.{_≡_, sym, ap, _∙_}
 use mathlib.Core.List.{List, []}
-use mathlib.Core.Bool.{Bool, true, false, cond, _&&_}
+use mathlib.Core.Bool.{Bool, true, false, _&&_}
 use Prim.Native.Nat.{ℕ, _+_, _*_, _%_, _<_, _≤_}
 use native.Mathlib.Omega.{arith}
 use lib.Dec.{eqb, leb, ltb}
@@ -10,7 +10,7 @@ use Rattle.std.specs.declared.option.Option.the-variants.{Some, None}
 use Rattle.std.proofs.shelf.Lists.{places, same-lists}
 use Rattle.std.proofs.shelf.Ways.{tells}
 use borrow.Author.Needs.{needs}
-use Rattle.flash.specs.Card.{Card, bytes}
+use Rattle.flash.specs.Card.{Card}
 use Rattle.flash.specs.Device.{readRefusal}
 use Rattle.flash.specs.Image.{blocksOf}
 use Rattle.flash.specs.Write.{program, erase, part, isErased, refusal}

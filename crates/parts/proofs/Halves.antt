@@ -1,20 +1,20 @@
 -- A write that stops half way: what it leaves in the cells, that this is a mix of old and new bytes, and so that a chip
 -- which does exactly what is written of it answers as every device must.
-use mathlib.Core.Path.{_≡_, refl, sym, ap, subst, _∙_}
+use mathlib.Core.Path.{_≡_, refl, sym, ap, _∙_}
 use mathlib.Core.List.{List, [], _++_}
 use mathlib.Core.Bool.{Bool, true, false, _||_}
-use mathlib.Core.Logic.{_⊎_, inl, inr}
-use Prim.Native.Nat.{ℕ, _+_, _-_, _*_, _/_, _<_, _≤_}
+use mathlib.Core.Logic.{inl, inr}
+use Prim.Native.Nat.{ℕ, _+_, _-_, _*_, _/_, _≤_}
 use native.Mathlib.Nat.{zero-add}
 use native.Mathlib.Omega.{arith}
 use lib.Dec.{eqb}
-use lib.ListN.{length, getD, set, take, drop, replicate}
+use lib.ListN.{length, getD, take, drop, replicate}
 use lib.Seq.{paste}
 use borrow.Author.Needs.{needs}
 use Rattle.std.specs.declared.result.Result.{Result}
 use Rattle.std.specs.declared.result.Result.the-variants.{Ok, Err}
-use Rattle.std.specs.declared.option.Option.the-variants.{Some, None}
-use Rattle.std.proofs.shelf.Lists.{places, same-lists, take-take, take-replicate, length-take}
+use Rattle.std.specs.declared.option.Option.the-variants.{None}
+use Rattle.std.proofs.shelf.Lists.{places, take-take, take-replicate, length-take}
 use Rattle.std.proofs.shelf.Edits.{length-paste}
 use Rattle.std.proofs.shelf.Tests.{cases-lt, eqb-true}
 use Rattle.flash.specs.Card.{Card, Shaped, bytes, put, darkened}

@@ -1,6 +1,7 @@
--- The marks of good blocks while the listed bad ones are marked one after the other.
+-- The marks of good blocks while the listed bad ones are marked one after the other: none yet, one more, one that names
+-- no block, and all.
 use mathlib.Core.Path.{_≡_, refl, sym, ap, _∙_}
-use mathlib.Core.List.{List, [], _∷_, _++_, map}
+use mathlib.Core.List.{List, [], _∷_, _++_}
 use mathlib.Core.Bool.{Bool, true, false, not, _||_}
 use mathlib.Core.Logic.{inl, inr}
 use Prim.Native.Nat.{ℕ, _+_, _<_, _≤_}

@@ -1,9 +1,9 @@
 -- A change inside one block of a run of bytes: it stays within the run, keeps the run's length, and replaces that block.
 use mathlib.Core.Path.{_≡_, refl, sym, ap, _∙_}
-use mathlib.Core.List.{List, []}
+use mathlib.Core.List.{List}
 use Prim.Native.Nat.{ℕ, _+_, _*_, _<_, _≤_}
 use native.Mathlib.Omega.{arith}
-use lib.ListN.{length, getD, set}
+use lib.ListN.{length, set}
 use lib.Seq.{paste}
 use Rattle.std.specs.declared.vec.Vec.{Vec}
 use Rattle.std.specs.Changed.{refilled}

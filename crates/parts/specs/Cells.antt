@@ -1,7 +1,8 @@
--- The memory of a modelled part as a card, and what its private calls answer.
+-- The memory of a modelled part as a card: one run of bytes, cut into blocks of one size. What making a part answers,
+-- and what the calls on its cells, which both parts share, answer and leave.
 use mathlib.Core.Path.{_≡_}
 use mathlib.Core.List.{List, []}
-use mathlib.Core.Bool.{Bool, true, false, cond, _&&_}
+use mathlib.Core.Bool.{Bool, true, false, _&&_}
 use Prim.Native.Nat.{ℕ}
 use lib.Dec.{leb}
 use lib.ListN.{getD, set, replicate}

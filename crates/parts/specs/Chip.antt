@@ -17,11 +17,13 @@ use Rattle.flash.specs.Write.{Write, program, erase, target, refusal, written}
 use Rattle.flash.specs.declared.Refusal.{Refusal}
 use Rattle.flash.specs.declared.Refusal.the-variants.{Dark}
 
+-- a card, and when its power goes
 pub record Chip : Type 0 where
   pub card : Card
   -- in which of the writes to come the power goes, counted from 1; 0 where it stays
   pub left : ℕ
 
+-- the chip of a card and a count
 abbrev pub chip : Card → ℕ → Chip
 chip c n = record { card = c; left = n }
 

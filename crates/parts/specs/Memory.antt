@@ -1,4 +1,5 @@
--- The card that a memory board means, and the image of a card as one run of bytes.
+-- The card that a memory board means, and the image of a card as one run of bytes, which a host can write to a file
+-- as it is.
 use mathlib.Core.Path.{_≡_}
 use mathlib.Core.List.{List}
 use mathlib.Core.Bool.{true, false}

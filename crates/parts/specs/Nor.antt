@@ -1,5 +1,5 @@
--- The chip that a NOR chip means.
-use Prim.Native.Nat.{ℕ}
+-- The chip that a NOR chip means. Its card is what the NOR chip means as a device; the count of writes is what its own
+-- promises speak of besides.
 use Rattle.std.specs.Of.Vec.{vec-items}
 use Rattle.parts.specs.Cells.{card}
 use Rattle.parts.specs.Chip.{Chip, chip}

@@ -1,10 +1,11 @@
 // The cells of a part: all blocks in one run of bytes. What both parts do with them is here, once.
+// The checks take whether the block is good, since only the part knows that; they speak of a card that is not dark.
 ghost use mathlib.Core.Bool.{Bool, false, _&&_};
 ghost use mathlib.Core.List.{List, []};
 ghost use mathlib.Core.Path.{_≡_};
 ghost use Prim.Native.Nat.{_+_, _*_, _%_, _<_, _≤_};
 ghost use lib.Dec.{eqb, ltb, leb};
-ghost use lib.ListN.{length, getD, set, replicate};
+ghost use lib.ListN.{length, getD, replicate};
 ghost use lib.Seq.{paste};
 ghost use Rattle.std.specs.Of.Vec.{vec-items};
 ghost use Rattle.std.specs.Vec.{made};
@@ -17,6 +18,7 @@ use flash::Refusal;
 use flash::is_erased;
 use std::alloc::Global;
 
+// `count` blocks of `size` bytes each.
 #[derive(Drop)]
 pub struct Cells {
     bytes: Vec<u8>,

@@ -1,4 +1,5 @@
 // A board that keeps its card in memory: all blocks are good, and the power never goes.
+// Its bytes, one block behind the other, are the image of its card.
 ghost use mathlib.Core.Bool.{true};
 ghost use mathlib.Core.Path.{_≡_};
 ghost use lib.ListN.{replicate};

@@ -1,9 +1,11 @@
 // The power of a chip: whether it is gone, and in which of the writes to come it goes.
+// Only writes that pass their checks are counted: the chip counts one where nothing refuses it any more.
 ghost use mathlib.Core.Bool.{false, _||_};
 ghost use mathlib.Core.Path.{_≡_};
 ghost use Prim.Native.Nat.{_-_};
 ghost use lib.Dec.{eqb};
 
+// On or gone, with the count.
 #[derive(Drop)]
 pub struct Power {
     pub dark: bool,

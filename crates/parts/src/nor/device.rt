@@ -1,4 +1,5 @@
-// A NOR chip as a device. Its own promises say exactly what each request does.
+// A NOR chip as a device. Beside the promise that every device makes, its own say exactly what each request does:
+// which writes count, in which one the power goes, and what that one leaves.
 ghost use mathlib.Core.Path.{_≡_};
 ghost use Rattle.flash.specs.Device.{Answers, PowersUp};
 ghost use Rattle.flash.specs.Write.{program, erase};

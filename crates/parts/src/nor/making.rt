@@ -1,4 +1,5 @@
 // Making a NOR chip, and choosing the write in which its power goes.
+// A chip is made with a list of its bad blocks; nothing that it is asked later makes a block bad or good.
 ghost use mathlib.Core.Bool.{true};
 ghost use mathlib.Core.Path.{_≡_};
 ghost use lib.ListN.{length, replicate};

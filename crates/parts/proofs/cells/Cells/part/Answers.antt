@@ -1,8 +1,8 @@
 -- The part lies within the run, and is that part of the block.
-use mathlib.Core.Path.{_≡_, ap, sym, _∙_}
+use mathlib.Core.Path.{_≡_, ap}
 use native.Mathlib.Omega.{arith}
 use Prim.Native.Nat.{_+_, _-_, _≤_}
-use lib.ListN.{length, take, drop, length-take, length-drop}
+use lib.ListN.{length, length-take, length-drop}
 use borrow.Author.Needs.{needs}
 use Rattle.parts.proofs.Checked.{part-lies}
 use Rattle.parts.proofs.Replaced.{part-within}

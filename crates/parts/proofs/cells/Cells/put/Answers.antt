@@ -1,9 +1,7 @@
 -- The part lies within the run, the run keeps its length, and the block is replaced.
-use mathlib.Core.Path.{_≡_, ap, _∙_, subst}
+use mathlib.Core.Path.{ap, _∙_}
 use native.Mathlib.Omega.{arith}
 use lib.ListN.{length}
-use lib.Seq.{paste}
-use borrow.Author.Needs.{needs}
 use Rattle.parts.proofs.Replaced.{part-within, refilled-whole, replaced}
 use Rattle.parts.proofs.cells.Cells.put.Needs as need
 

@@ -1,7 +1,5 @@
 -- Refused outside; else the bytes of the block.
-use mathlib.Core.Path.{refl, sym, ap, _∙_}
-use native.Mathlib.Omega.{arith}
-use borrow.Author.Needs.{needs}
+use mathlib.Core.Path.{refl, sym, _∙_}
 use Rattle.parts.proofs.Checked.{read-outside, read-inside}
 use Rattle.parts.proofs.cells.Cells.read.Needs as need
 
