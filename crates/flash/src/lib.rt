@@ -13,6 +13,7 @@ pub mod laws;
 mod writing;
 pub use erased::is_erased;
 pub use writing::UNIT;
+pub use writing::program_units;
 
 // Why a device refuses a request.
 #[derive(Clone, Copy, PartialEq, Eq, Debug)]
