@@ -4,3 +4,4 @@ pub mod Refusals
 pub mod Sequences
 pub mod Units
 pub mod Filling
+pub mod Rewriting

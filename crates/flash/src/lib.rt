@@ -14,6 +14,7 @@ mod writing;
 pub use erased::is_erased;
 pub use writing::UNIT;
 pub use writing::program_units;
+pub use writing::write_block;
 
 // Why a device refuses a request.
 #[derive(Clone, Copy, PartialEq, Eq, Debug)]
