@@ -5,3 +5,4 @@ pub mod Sequences
 pub mod Units
 pub mod Filling
 pub mod Rewriting
+pub mod Counting
