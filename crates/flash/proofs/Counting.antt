@@ -13,7 +13,7 @@ use Rattle.std.proofs.shelf.Tests.{false≢true, both-ways}
 use Rattle.flash.specs.Write.{Write, program, erase, refusal}
 use Rattle.flash.specs.History.{Operation, write, Event, event, Histories, Extends}
 use Rattle.flash.specs.Device.{Answers}
-use Rattle.flash.specs.Counts.{isProgram, isErase, isPowerUp, countOf, capped, counts, notRefused, Counted, recorded}
+use Rattle.flash.specs.Counts.{isProgram, isErase, isPowerUp, countOf, capped, counts, notRefused, Counted, recorded, Account}
 use Rattle.flash.specs.declared.Refusal.{Refusal}
 use Rattle.flash.proofs.Refusals.{accepted-powered}
 
@@ -64,3 +64,7 @@ answers-recorded c w (Err e) d N₀ N₁ p q t false k (inr h) =
     let was : c .dark ≡ false = accepted-powered c w (h .1) in
     let is : d .dark ≡ true = ap (λ x. x .dark) (h .2 .is) in
     elim (false≢true (k ∙ grind arith)) [ ]
+
+-- the counters of a recorder that began with no event
+pub account : (N₀ N₁ : Histories) (p q t p′ q′ t′ : ℕ) → Account (recorded N₀ p q t) (recorded N₁ p′ q′ t′) p′ q′ t′
+account N₀ N₁ p q t p′ q′ t′ = record { tells = λ es h a. a .each [] h .1 }

@@ -6,7 +6,7 @@ use Prim.Native.Nat.{ℕ, _+_, _-_, _^_, min}
 use Rattle.std.specs.declared.result.Result.{Result}
 use Rattle.std.specs.declared.result.Result.the-variants.{Ok, Err}
 use Rattle.flash.specs.Write.{program, erase}
-use Rattle.flash.specs.History.{Operation, write, power-up, Event, Histories}
+use Rattle.flash.specs.History.{Operation, write, power-up, Event, Histories, Extends}
 use Rattle.flash.specs.declared.Refusal.{Refusal}
 
 abbrev pub isProgram : Operation → Bool
@@ -52,3 +52,8 @@ pub record Counted (programs erases takeUps : ℕ) (h : List Event) : Type 0 whe
 -- the histories of a device that are also those of the counters
 abbrev pub recorded : Histories → ℕ → ℕ → ℕ → Histories
 recorded N programs erases takeUps h = N h × Counted programs erases takeUps h
+
+-- What a recorder's counters tell at a later state, where no event lay before the earlier state and the events es between
+-- the two were really asked: how many of es there are of each kind.
+pub record Account (before after : Histories) (programs erases takeUps : ℕ) : Type 0 where
+  pub tells : (es : List Event) → before [] → Extends before after es → Counted programs erases takeUps es

@@ -16,6 +16,7 @@ pub use erased::is_erased;
 pub use recorder::Recorder;
 pub use recorder::RecorderRead;
 pub use recorder::RecorderWrite;
+pub use recorder::account_holds;
 pub use writing::UNIT;
 pub use writing::program_units;
 pub use writing::write_block;

@@ -2,7 +2,7 @@
 // there were. It answers as the device that it is laid over, and its counters stop at their maximum.
 ghost use mathlib.Core.List.{[]};
 ghost use mathlib.Core.Path.{_≡_};
-ghost use Rattle.flash.specs.Counts.{Counted, counts, notRefused, recorded};
+ghost use Rattle.flash.specs.Counts.{Account, Counted, counts, notRefused, recorded};
 use super::ReadableDevice;
 use super::Refusal;
 use super::WritableDevice;
@@ -54,6 +54,14 @@ impl<D: WritableDevice> Recorder<D> {
     }
 }
 
+// A law for proofs, at any two states of a recorder: code that is handed a new recorder and promises of its history which
+// events it added has the counters tell the number of exactly these events.
+pub fn account_holds<D: WritableDevice>(before: &Recorder<D>, after: &Recorder<D>) -> u8
+    ensures { λ _. ⌜ Account (recorded (D·WritableDevice .history (now (before .entry) .device)) (now (before .entry) .programs) (now (before .entry) .erases) (now (before .entry) .«take_ups»)) (recorded (D·WritableDevice .history (now (after .entry) .device)) (now (after .entry) .programs) (now (after .entry) .erases) (now (after .entry) .«take_ups»)) (now (after .entry) .programs) (now (after .entry) .erases) (now (after .entry) .«take_ups») ⌝ }
+{
+    0
+}
+
 // Whether a write was not refused: it was done, or the power went in it.
 fn not_refused(answer: &Result<(), Refusal>, was_dark: bool, is_dark: bool) -> bool
     ensures { λ r. ⌜ r ≡ notRefused (now (answer .entry)) «was_dark» «is_dark» ⌝ }
@@ -64,11 +72,13 @@ fn not_refused(answer: &Result<(), Refusal>, was_dark: bool, is_dark: bool) -> b
     }
 }
 
-// The counter after a request that it counts, or that it does not count.
-fn tally(counter: u64, counted: bool) -> u64
-    ensures { λ r. ⌜ r ≡ counts counted counter ⌝ }
+// Counts one more, where it is counted and the counter has room.
+fn tally(counter: &mut u64, counted: bool)
+    ensures { λ _. ⌜ now (counter .exit) ≡ counts counted (now (counter .entry)) ⌝ }
 {
-    if counted { counter.saturating_add(1) } else { counter }
+    if counted {
+        *counter = counter.saturating_add(1);
+    }
 }
 
 pub impl<D: WritableDevice> ReadableDevice for Recorder<D> as RecorderRead {
@@ -102,7 +112,7 @@ pub impl<D: WritableDevice> WritableDevice for Recorder<D> as RecorderWrite {
         let was_dark = self.device.is_dark();
         let answer = self.device.program(block, at, unit);
         let asked = not_refused(&answer, was_dark, self.device.is_dark());
-        self.programs = tally(self.programs, asked);
+        tally(&mut self.programs, asked);
         answer
     }
 
@@ -110,12 +120,12 @@ pub impl<D: WritableDevice> WritableDevice for Recorder<D> as RecorderWrite {
         let was_dark = self.device.is_dark();
         let answer = self.device.erase(block);
         let asked = not_refused(&answer, was_dark, self.device.is_dark());
-        self.erases = tally(self.erases, asked);
+        tally(&mut self.erases, asked);
         answer
     }
 
     fn take_up(&mut self) {
         self.device.take_up();
-        self.take_ups = tally(self.take_ups, true);
+        tally(&mut self.take_ups, true);
     }
 }
