@@ -30,11 +30,16 @@ count-more kind h e n c = capped-more (kind (e .asked)) (countOf kind h) n c ∙
 
 -- one event more
 pub recorded-more : {N₀ N₁ : Histories} {e : Event} (p q t : ℕ) → Extends N₀ N₁ (e ∷ []) → Extends (recorded N₀ p q t) (recorded N₁ (counts (isProgram (e .asked)) p) (counts (isErase (e .asked)) q) (counts (isPowerUp (e .asked)) t)) (e ∷ [])
-recorded-more {e} p q t a = record { each = λ h k. (a .each h (k .0), record {
-  programmed = count-more isProgram h e p (k .1 .programmed);
-  erased = count-more isErase h e q (k .1 .erased);
-  takenUp = count-more isPowerUp h e t (k .1 .takenUp);
-}) }
+recorded-more {e} p q t a = record {
+  each = λ h k. (
+    a .each h (k .0),
+    record {
+      programmed = count-more isProgram h e p (k .1 .programmed);
+      erased = count-more isErase h e q (k .1 .erased);
+      takenUp = count-more isPowerUp h e t (k .1 .takenUp);
+    },
+  );
+}
 
 -- none
 pub recorded-none : {N₀ N₁ : Histories} (p q t : ℕ) → Extends N₀ N₁ [] → Extends (recorded N₀ p q t) (recorded N₁ p q t) []

@@ -80,8 +80,10 @@ wrote-units {T} c b content w r d N₀ N₁ N₂ s u h q =
   where
     erased : Finished (erase b ∷ []) c w N₀ N₁
     erased = finished-one (h .0) (h .1) (h .2)
+
     none : blockRefusal c b (length content) ≡ None
     none = blockRefusal-erase c b (length content) None u (h .0)
+
     ends : {T : Type 0} (r : Result T Refusal) → Unhindered (programs b 0 content) w r d N₁ N₂ → WroteBlock c b content r d N₀ N₂
     ends (Ok _) k = (none, finished-pasted w b 0 content d N₁ N₂ s (fits-from c 0 (length content) u .1) k ∙ ap (λ x. pasted x b 0 content) (h .1) ∙ pasted-filled c b content (may-erase c b (h .0) .block), finished-join erased k)
     ends (Err e) k = inr (k .0, none, interrupted-behind erased (k .1))
@@ -102,8 +104,8 @@ tried-from-wrote c b content (Ok _) d N₀ N₁ h = (first-none (unfit c 0 (leng
 tried-from-wrote c b content (Err e) d N₀ N₁ (inr h) = inr (first-none (unfit c 0 (length content)) (refusal c (erase b)) (h .1), inr (h .0, h .2))
 tried-from-wrote c b content (Err e) d N₀ N₁ (inl h) =
     elim (first-some (unfit c 0 (length content)) (refusal c (erase b)) e (h .0)) [
-      inl u ↦ inl (u, h .1)
-    | inr u ↦ inr (u .0, inl (record { front = []; w = erase b; rest = programs b 0 content; splits = refl; accepted = tt; because = u .1; is = h .1 .is; adds = h .1 .adds }))
+      | inl u ↦ inl (u, h .1)
+      | inr u ↦ inr (u .0, inl (record { front = []; w = erase b; rest = programs b 0 content; splits = refl; accepted = tt; because = u .1; is = h .1 .is; adds = h .1 .adds }))
     ]
 
 -- both promises of writing a block, from the one

@@ -8,10 +8,12 @@ ghost use Rattle.flash.specs.Card.{Card, Shaped, isGood};
 ghost use Rattle.flash.specs.Write.{numberOf, program, erase};
 ghost use Rattle.flash.specs.History.{Event};
 ghost use Rattle.flash.specs.Device.{Reads, Answers, PowersUp};
+
 mod erased;
 pub mod laws;
 mod recorder;
 mod writing;
+
 pub use erased::is_erased;
 pub use recorder::Recorder;
 pub use recorder::RecorderRead;

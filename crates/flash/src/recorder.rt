@@ -21,7 +21,12 @@ impl<D: WritableDevice> Recorder<D> {
         ensures over { λ r. ⌜ r .device ≡ device ⌝ }
         ensures begins { λ r. ⌜ Counted (r .programs) (r .erases) (r .«take_ups») [] ⌝ }
     {
-        Recorder { device, programs: 0, erases: 0, take_ups: 0 }
+        Recorder {
+            device,
+            programs: 0,
+            erases: 0,
+            take_ups: 0,
+        }
     }
 
     // How many programs were not refused.
@@ -49,7 +54,12 @@ impl<D: WritableDevice> Recorder<D> {
     pub fn into_inner(self) -> D
         ensures { λ r. ⌜ r ≡ self .device ⌝ }
     {
-        let Recorder { device, programs: _, erases: _, take_ups: _ } = self;
+        let Recorder {
+            device,
+            programs: _,
+            erases: _,
+            take_ups: _,
+        } = self;
         device
     }
 }

@@ -16,7 +16,12 @@ pub const UNIT: usize = 16;
 
 // Programs the units of `content` upward through a block, from the offset `at` on. Where the card is dark, or the content is
 // no whole number of units that fit behind the offset, nothing is asked of the device.
-pub fn program_units<D: WritableDevice>(device: &mut D, block: u32, at: u32, content: &[u8]) -> Result<(), Refusal>
+pub fn program_units<D: WritableDevice>(
+    device: &mut D,
+    block: u32,
+    at: u32,
+    content: &[u8],
+) -> Result<(), Refusal>
     ensures asked { λ r. ⌜ Tried at (length (now (content .entry))) (programs block at (now (content .entry))) (D·ReadableDevice .meaning (now (device .entry))) r (D·ReadableDevice .meaning (now (device .exit))) (history (now (device .entry))) (history (now (device .exit))) ⌝ }
     ensures holds { λ r. ⌜ Pasted (D·ReadableDevice .meaning (now (device .entry))) block at (now (content .entry)) r (D·ReadableDevice .meaning (now (device .exit))) ⌝ }
     ensures free { λ r. ⌜ TakesFree (D·ReadableDevice .meaning (now (device .entry))) block at (now (content .entry)) r (D·ReadableDevice .meaning (now (device .exit))) (history (now (device .entry))) (history (now (device .exit))) ⌝ }
@@ -30,7 +35,11 @@ pub fn program_units<D: WritableDevice>(device: &mut D, block: u32, at: u32, con
 // Gives a block a new content: erases it, and programs the units of `content` upward from its start. Behind the content the
 // block is then 0xff. Where the card is dark, or the content is no whole number of units or longer than a block, or the
 // block takes no erase, nothing is changed.
-pub fn write_block<D: WritableDevice>(device: &mut D, block: u32, content: &[u8]) -> Result<(), Refusal>
+pub fn write_block<D: WritableDevice>(
+    device: &mut D,
+    block: u32,
+    content: &[u8],
+) -> Result<(), Refusal>
     ensures asked { λ r. ⌜ Tried 0 (length (now (content .entry))) (rewrites block (now (content .entry))) (D·ReadableDevice .meaning (now (device .entry))) r (D·ReadableDevice .meaning (now (device .exit))) (history (now (device .entry))) (history (now (device .exit))) ⌝ }
     ensures wrote { λ r. ⌜ WroteBlock (D·ReadableDevice .meaning (now (device .entry))) block (now (content .entry)) r (D·ReadableDevice .meaning (now (device .exit))) (history (now (device .entry))) (history (now (device .exit))) ⌝ }
 {
@@ -58,7 +67,12 @@ fn reason_unfit<D: ReadableDevice>(device: &D, at: u32, count: usize) -> Option<
 }
 
 // Programs the units of a content upward from an offset, which fits: the loop of the calls below.
-fn program_each<D: WritableDevice>(device: &mut D, block: u32, at: u32, content: &[u8]) -> Result<(), Refusal>
+fn program_each<D: WritableDevice>(
+    device: &mut D,
+    block: u32,
+    at: u32,
+    content: &[u8],
+) -> Result<(), Refusal>
     requires { ⌜ length (now content) % 16 ≡ 0 ⌝ }
     requires { ⌜ at + length (now content) < 2 ^ 32 ⌝ }
     ensures { λ r. ⌜ Runs (programs block at (now (content .entry))) (D·ReadableDevice .meaning (now (device .entry))) r (D·ReadableDevice .meaning (now (device .exit))) (history (now (device .entry))) (history (now (device .exit))) ⌝ }
