@@ -6,3 +6,4 @@ pub mod Units
 pub mod Filling
 pub mod Rewriting
 pub mod Counting
+pub mod Images

@@ -1,0 +1,10 @@
+// Two modelled parts for hosts and tests: a memory board that never goes dark, and a NOR chip that goes dark in a given
+// write and tears it at half. Both hold their cells in one run of bytes, made at creation; no later call allocates.
+mod cells;
+mod memory;
+mod unmade;
+
+pub use memory::MemoryBoard;
+pub use memory::MemoryBoardRead;
+pub use memory::MemoryBoardWrite;
+pub use unmade::Unmade;
