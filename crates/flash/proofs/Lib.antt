@@ -7,3 +7,4 @@ pub mod Filling
 pub mod Rewriting
 pub mod Counting
 pub mod Images
+pub mod ImageCards

@@ -10,11 +10,16 @@ ghost use Rattle.flash.specs.History.{Event};
 ghost use Rattle.flash.specs.Device.{Reads, Answers, PowersUp};
 
 mod erased;
+mod image;
 pub mod laws;
 mod recorder;
 mod writing;
 
 pub use erased::is_erased;
+pub use image::Bytes;
+pub use image::CardImage;
+pub use image::CardImageRead;
+pub use image::SliceBytes;
 pub use recorder::Recorder;
 pub use recorder::RecorderRead;
 pub use recorder::RecorderWrite;
