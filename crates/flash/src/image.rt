@@ -65,7 +65,7 @@ impl<B: Bytes> CardImage<B> {
     fn is_inside(&self, block: u32, at: u32, n: usize) -> bool
         ensures { λ r. ⌜ r ≡ (ltb block (blocksIn (now (self .entry) .size) (length (B·Bytes .content (now (self .entry) .image)))) && leb (at + n) (now (self .entry) .size)) ⌝ }
     {
-        block < self.count() && at <= self.size && n <= (self.size - at) as usize
+        at <= self.size && n <= (self.size - at) as usize && block < self.count()
     }
 }
 
