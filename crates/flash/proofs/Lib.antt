@@ -4,4 +4,7 @@ pub mod Refusals
 pub mod Sequences
 pub mod Units
 pub mod Filling
+pub mod Rewriting
+pub mod Counting
 pub mod Images
+pub mod ImageCards

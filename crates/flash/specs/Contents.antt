@@ -1,7 +1,7 @@
 -- Putting whole contents into a block: done exactly, refused with nothing changed, or cut by the power in one of its writes.
 use mathlib.Core.Path.{_≡_}
 use mathlib.Core.List.{List, _∷_}
-use mathlib.Core.Bool.{Bool, true, _&&_}
+use mathlib.Core.Bool.{Bool, true, false, _&&_}
 use mathlib.Core.Logic.{_⊎_}
 use Prim.Native.Nat.{ℕ, _%_}
 use lib.Dec.{eqb, ltb}
@@ -36,6 +36,10 @@ isFree c b at n = ltb b (length (c .blocks)) && (isGood c b && (eqb (at % 16) 0 
 abbrev pub Unhindered : {T : Type 0} → List Write → Card → Result T Refusal → Card → Histories → Histories → Type 0
 Unhindered ws c (Ok _) d old new = Finished ws c d old new
 Unhindered ws c (Err e) d old new = (e ≡ Dark) × Interrupted ws c d old new
+
+-- on a card that has its power, programs of free units are not refused
+abbrev pub TakesFree : {T : Type 0} → Card → ℕ → ℕ → List ℕ → Result T Refusal → Card → Histories → Histories → Type 0
+TakesFree c b at content r d old new = c .dark ≡ false → isFree c b at (length content) ≡ true → Unhindered (programs b at content) c r d old new
 
 -- the writes that give block b a new content: its erase, and then its units upward
 abbrev pub rewrites : ℕ → List ℕ → List Write

@@ -6,3 +6,4 @@ pub mod Runs
 pub mod Image
 pub mod Joins
 pub mod Contents
+pub mod Counts

@@ -6,12 +6,12 @@ use Rattle.flash.proofs.writing.reason_unfit.Needs as need
 
 pub returns-then-is-dark : need.returns-then-is-dark
 unfolding unfit
-returns-then-is-dark g c = grind (arith, tells)
+returns-then-is-dark g c = record { reason = grind (arith, tells); below = λ h. grind arith }
 
 pub returns-then-count-ne0 : need.returns-then-count-ne0
 unfolding unfit
-returns-then-count-ne0 g c = grind (arith, tells)
+returns-then-count-ne0 g c = record { reason = grind (arith, tells); below = λ h. grind arith }
 
 pub returns : need.returns
 unfolding unfit
-returns g c = grind (arith, tells)
+returns g c = record { reason = grind (arith, tells); below = λ _. grind (arith, tells) }
