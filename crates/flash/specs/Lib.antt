@@ -4,3 +4,6 @@ pub mod History
 pub mod Device
 pub mod Runs
 pub mod Image
+pub mod Joins
+pub mod Contents
+pub mod Counts

@@ -9,6 +9,25 @@ ghost use Rattle.flash.specs.Write.{numberOf, program, erase};
 ghost use Rattle.flash.specs.History.{Event};
 ghost use Rattle.flash.specs.Device.{Reads, Answers, PowersUp};
 
+mod erased;
+mod image;
+pub mod laws;
+mod recorder;
+mod writing;
+
+pub use erased::is_erased;
+pub use image::Bytes;
+pub use image::CardImage;
+pub use image::CardImageRead;
+pub use image::SliceBytes;
+pub use recorder::Recorder;
+pub use recorder::RecorderRead;
+pub use recorder::RecorderWrite;
+pub use recorder::account_holds;
+pub use writing::UNIT;
+pub use writing::program_units;
+pub use writing::write_block;
+
 // Why a device refuses a request.
 #[derive(Clone, Copy, PartialEq, Eq, Debug)]
 pub enum Refusal {

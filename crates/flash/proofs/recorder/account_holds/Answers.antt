@@ -1,0 +1,6 @@
+-- The law on plain histories and counters.
+use Rattle.flash.proofs.Counting.{account}
+use Rattle.flash.proofs.recorder.account_holds.Needs as need
+
+pub returns : need.returns
+returns g c = account _ _ _ _ _ _ _ _
