@@ -26,15 +26,13 @@ pub record Place (b at n : ℕ) (content : List ℕ) (front : List Write) (w : W
   pub before : front ≡ units b at k content
   pub there : w ≡ program b (at + 16 * k) (take 16 (drop (16 * k) content))
 
+zero-not-one : _≡_ {A = ℕ} 0 1 → ⊥
+zero-not-one h = omega arith
+
+-- where the power went lies at such a place
 pub units-place : (b at n : ℕ) (content : List ℕ) (front : List Write) (w : Write) (rest : List Write) → units b at n content ≡ front ++ w ∷ rest → Place b at n content front w
-units-place b at zero content [] w rest e = let no : _≡_ {A = ℕ} 0 1 = cc in elim (none no) [ ]
-  where
-    none : _≡_ {A = ℕ} 0 1 → ⊥
-    none h = omega arith
-units-place b at zero content (x ∷ front) w rest e = let no : _≡_ {A = ℕ} 0 1 = cc in elim (none no) [ ]
-  where
-    none : _≡_ {A = ℕ} 0 1 → ⊥
-    none h = omega arith
+units-place b at zero content [] w rest e = let no : _≡_ {A = ℕ} 0 1 = cc in elim (zero-not-one no) [ ]
+units-place b at zero content (x ∷ front) w rest e = let no : _≡_ {A = ℕ} 0 1 = cc in elim (zero-not-one no) [ ]
 units-place b at (suc n) content [] w rest e =
     let z : at + 16 * 0 ≡ at = omega arith in
     record { k = 0; below = omega arith; before = refl; there = cc }
