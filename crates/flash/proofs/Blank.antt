@@ -1,9 +1,9 @@
--- Bytes that are all 0xff: a loop over them, and the parts of a blank block.
-use mathlib.Core.Path.{_≡_, refl, sym, ap, _∙_}
-use mathlib.Core.List.{List, [], _∷_, _++_}
-use mathlib.Core.Bool.{Bool, true, false, _&&_}
+-- Bytes that are all 0xff: a loop that asks whether they are, and the parts of bytes that are.
+-- Whoever programs a unit needs that the unit is blank, and has it from a longer part that is.
+use mathlib.Core.Path.{_≡_, refl, ap, _∙_}
+use mathlib.Core.List.{List, [], _∷_}
+use mathlib.Core.Bool.{true, false, _&&_}
 use Prim.Native.Nat.{ℕ, zero, suc, _+_, _<_, _≤_}
-use native.Mathlib.Omega.{arith}
 use lib.Dec.{eqb}
 use lib.ListN.{length, getD, take, drop, replicate}
 use Rattle.std.proofs.shelf.Lists.{at-drop-more, at-drop-all, take-take, drop-take, drop-drop}

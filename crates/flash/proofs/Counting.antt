@@ -1,16 +1,17 @@
 -- Counters that go with a history: one event more, or none.
-use mathlib.Core.Path.{_≡_, refl, sym, ap, subst, _∙_}
+-- From them the answers of a recorder, whose histories are those of the device below that the counters tell too.
+use mathlib.Core.Path.{_≡_, sym, ap, subst, _∙_}
 use mathlib.Core.List.{List, [], _∷_, _++_, append-nil}
-use mathlib.Core.Bool.{Bool, true, false, cond, not, _&&_}
-use mathlib.Core.Logic.{_⊎_, inl, inr}
-use Prim.Native.Nat.{ℕ, _+_, _-_, _^_, _≤_, min}
-use native.Mathlib.Nat.{add-assoc, add-zero, zero-add}
+use mathlib.Core.Bool.{Bool, true, false, cond, _&&_}
+use mathlib.Core.Logic.{inl, inr}
+use Prim.Native.Nat.{ℕ, _+_}
+use native.Mathlib.Nat.{add-assoc, zero-add}
 use native.Mathlib.Omega.{arith}
 use Rattle.std.specs.declared.result.Result.{Result}
 use Rattle.std.specs.declared.result.Result.the-variants.{Ok, Err}
 use Rattle.flash.specs.Card.{Card}
 use Rattle.std.proofs.shelf.Tests.{false≢true, both-ways}
-use Rattle.flash.specs.Write.{Write, program, erase, refusal}
+use Rattle.flash.specs.Write.{Write, program, erase}
 use Rattle.flash.specs.History.{Operation, write, Event, event, Histories, Extends}
 use Rattle.flash.specs.Device.{Answers}
 use Rattle.flash.specs.Counts.{isProgram, isErase, isPowerUp, countOf, capped, counts, notRefused, Counted, recorded, Account}

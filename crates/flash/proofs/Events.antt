@@ -1,11 +1,11 @@
 -- Events behind one another: histories that were extended twice, runs of events that were all done, and runs whose
 -- last event was cut by the power.
-use mathlib.Core.Path.{_≡_, refl, sym, ap, subst, _∙_}
+use mathlib.Core.Path.{_≡_, refl, sym, subst}
 use mathlib.Core.List.{List, [], _∷_, _++_, append-nil, append-assoc}
-use mathlib.Core.Bool.{Bool, true, false}
+use mathlib.Core.Bool.{false}
 use Rattle.flash.specs.Card.{Card}
 use Rattle.flash.specs.Write.{Write, Torn}
-use Rattle.flash.specs.History.{Operation, write, Event, event, done, Completed, Cut, All, Execution, Histories, Extends, Completes, Crashes}
+use Rattle.flash.specs.History.{Operation, write, Event, event, done, Completed, All, Execution, Histories, Extends, Completes, Crashes}
 
 -- nothing asked adds nothing
 pub extends-none : (N : Histories) → Extends N N []

@@ -1,22 +1,22 @@
--- Asking for the programs of a content one after the other, and a block that is erased and then filled.
-use mathlib.Core.Path.{_≡_, refl, sym, ap, subst, _∙_}
+-- Asking for the programs of a content one after the other: one unit more, the unit at which the device stopped, and the
+-- end. What the content leaves in its block, and that units which are free are never refused.
+use mathlib.Core.Path.{_≡_, sym, ap, subst, _∙_}
 use mathlib.Core.List.{List, [], _∷_, _++_}
-use mathlib.Core.Bool.{Bool, true, false, _&&_}
-use mathlib.Core.Logic.{_⊎_, inl, inr}
-use Prim.Native.Nat.{ℕ, zero, suc, _+_, _*_, _-_, _/_, _%_, _<_, _≤_}
+use mathlib.Core.Bool.{true, false}
+use mathlib.Core.Logic.{inl, inr}
+use Prim.Native.Nat.{ℕ, suc, _+_, _*_, _-_, _/_, _%_, _<_, _≤_}
 use native.Mathlib.Omega.{arith}
-use borrow.Author.Needs.{needs}
-use lib.ListN.{length, getD, take, drop, replicate, length-set}
+use lib.ListN.{length, take, drop}
 use lib.Seq.{paste}
 use Rattle.std.specs.declared.option.Option.the-variants.{Some, None}
 use Rattle.std.specs.declared.result.Result.{Result}
 use Rattle.std.specs.declared.result.Result.the-variants.{Ok, Err}
 use Rattle.std.proofs.shelf.Ways.{tells}
-use Rattle.flash.specs.Card.{Card, Shaped, bytes, isGood, put}
-use Rattle.flash.specs.Write.{Write, program, erase, isErased, part, refusal, written}
-use Rattle.flash.specs.History.{write, event, Histories, Extends}
+use Rattle.flash.specs.Card.{Card, Shaped, bytes, put}
+use Rattle.flash.specs.Write.{Write, program}
+use Rattle.flash.specs.History.{Histories}
 use Rattle.flash.specs.Device.{Answers}
-use Rattle.flash.specs.Runs.{after, Accepted, Finished, Refused, Interrupted, Runs, units, programs, fits, unfit, Untouched, Tried}
+use Rattle.flash.specs.Runs.{after, Accepted, Finished, Runs, units, programs, fits, unfit, Tried}
 use Rattle.flash.specs.Contents.{pasted, Pasted, isFree, Unhindered, TakesFree}
 use Rattle.flash.specs.declared.Refusal.{Refusal}
 use Rattle.flash.proofs.Refusals.{accepted-not-refused}

@@ -8,3 +8,4 @@ pub mod Rewriting
 pub mod Counting
 pub mod Images
 pub mod ImageCards
+pub mod Cuts

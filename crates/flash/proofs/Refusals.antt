@@ -1,17 +1,15 @@
--- What it means that a write is refused for a reason, or for none.
-use mathlib.Core.Path.{_≡_, refl, sym, ap, subst, _∙_}
+-- What it means that a write is refused for a reason, or for none, as facts of the card.
+-- Both ways: the facts from the answer, and the answer from the facts.
+use mathlib.Core.Path.{_≡_}
 use mathlib.Core.List.{List}
-use mathlib.Core.Bool.{Bool, true, false, cond, _&&_}
+use mathlib.Core.Bool.{true, false}
 use Prim.Native.Nat.{ℕ, _+_, _%_, _<_, _≤_}
 use native.Mathlib.Omega.{arith}
-use lib.Dec.{eqb, leb, ltb}
 use lib.ListN.{length}
-use Rattle.std.specs.declared.option.Option.{Option}
 use Rattle.std.specs.declared.option.Option.the-variants.{Some, None}
-use Rattle.std.proofs.shelf.Tests.{and-parts, and-from, ltb-true, lt-ltb, eqb-true, eq-eqb, leb-true, le-leb, cases-bool, cond-true, cond-false}
 use Rattle.std.proofs.shelf.Ways.{tells}
-use Rattle.flash.specs.Card.{Card, bytes, isGood, put}
-use Rattle.flash.specs.Write.{Write, program, erase, isErased, part, isUnit, refusal, written}
+use Rattle.flash.specs.Card.{Card, bytes, isGood}
+use Rattle.flash.specs.Write.{Write, program, erase, isErased, part, isUnit, refusal}
 use Rattle.flash.specs.declared.Refusal.{Refusal}
 use Rattle.flash.specs.declared.Refusal.the-variants.{Dark, Outside, Bad, Used}
 

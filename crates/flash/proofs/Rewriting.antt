@@ -1,26 +1,25 @@
--- A block that is erased and then filled: no unit behind the erase is refused, and what the block holds in the end.
+-- A block that is erased and then filled: no unit behind the erase is refused, and the block holds the content in the end.
+-- The lemmas on the outcome say this for each way that the call may end.
 use mathlib.Core.Path.{_≡_, refl, sym, ap, subst, _∙_}
-use mathlib.Core.List.{List, [], _∷_, _++_}
-use mathlib.Core.Bool.{Bool, true, false}
+use mathlib.Core.List.{List, [], _∷_}
 use mathlib.Core.Logic.{_⊎_, inl, inr}
-use Prim.Native.Nat.{ℕ, zero, suc, _+_, _*_, _-_, _/_, _%_, _<_, _≤_}
+use Prim.Native.Nat.{ℕ, _+_, _*_, _-_, _/_, _%_, _<_, _≤_}
 use native.Mathlib.Nat.{zero-add}
 use native.Mathlib.Omega.{arith}
-use lib.ListN.{length, getD, take, drop, replicate, length-set, length-replicate}
+use lib.ListN.{length, take, drop, replicate, length-set, length-replicate}
 use lib.Seq.{paste}
 use Rattle.std.specs.declared.option.Option.{Option}
 use Rattle.std.specs.declared.option.Option.the-variants.{Some, None}
 use Rattle.std.specs.declared.result.Result.{Result}
 use Rattle.std.specs.declared.result.Result.the-variants.{Ok, Err}
 use Rattle.std.proofs.shelf.Lists.{take-all, drop-replicate}
-use Rattle.flash.specs.Card.{Card, Shaped, bytes, isGood, put}
-use Rattle.flash.specs.Write.{Write, erase, isErased, part, refusal, written}
-use Rattle.flash.specs.History.{write, event, Histories, Extends}
+use Rattle.flash.specs.Card.{Card, Shaped, bytes, put}
+use Rattle.flash.specs.Write.{erase, refusal, written}
+use Rattle.flash.specs.History.{Histories}
 use Rattle.flash.specs.Device.{Answers}
-use Rattle.flash.specs.Runs.{Finished, Refused, Interrupted, Runs, programs, unfit, Untouched, Tried, filled}
+use Rattle.flash.specs.Runs.{Finished, Runs, programs, unfit, Tried, filled}
 use Rattle.flash.specs.Contents.{pasted, Unhindered, rewrites, firstOf, blockRefusal, WroteBlock}
 use Rattle.flash.specs.declared.Refusal.{Refusal}
-use Rattle.flash.specs.declared.Refusal.the-variants.{Dark}
 use Rattle.flash.proofs.Blank.{erased-replicate, erased-take}
 use Rattle.flash.proofs.Refusals.{MayErase, may-erase}
 use Rattle.flash.proofs.Events.{extends-none}

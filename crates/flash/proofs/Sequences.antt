@@ -1,18 +1,17 @@
--- Writes behind one another: what they leave, their events, and the outcome of asking for one list of writes and then for another.
+-- Writes behind one another: what they leave and their events, and the outcome of asking for one list of writes and then
+-- for another. Writes that were done are events that were done, and a write that was interrupted is a crash.
 use mathlib.Core.Path.{_≡_, refl, sym, ap, subst, _∙_}
-use mathlib.Core.List.{List, [], _∷_, _++_, append-nil, append-assoc}
-use mathlib.Core.Bool.{Bool, true, false}
-use mathlib.Core.Logic.{_⊎_, inl, inr}
-use Rattle.std.specs.declared.option.Option.the-variants.{Some, None}
+use mathlib.Core.List.{List, [], _∷_, _++_, append-assoc}
+use mathlib.Core.Logic.{inl, inr}
+use Rattle.std.specs.declared.option.Option.the-variants.{None}
 use Rattle.std.specs.declared.result.Result.{Result}
 use Rattle.std.specs.declared.result.Result.the-variants.{Ok, Err}
 use Rattle.flash.specs.Card.{Card}
 use Rattle.flash.specs.Write.{Write, refusal, written, Torn}
-use Rattle.flash.specs.History.{write, Event, event, Completed, All, Execution, Histories, Extends, Completes, Crashes}
+use Rattle.flash.specs.History.{write, event, Completed, All, Execution, Histories, Extends, Completes, Crashes}
 use Rattle.flash.specs.Device.{Answers}
 use Rattle.flash.specs.Runs.{after, events, Accepted, Finished, Refused, Interrupted, Runs}
 use Rattle.flash.specs.declared.Refusal.{Refusal}
-use Rattle.flash.specs.declared.Refusal.the-variants.{Dark}
 use Rattle.flash.proofs.Events.{extends-none, extends-join, extends-at}
 use Rattle.flash.proofs.Refusals.{accepted-powered}
 

@@ -1,20 +1,19 @@
--- The programs that put a content into a block: one list behind another, and the bytes that they leave.
-use mathlib.Core.Path.{_≡_, refl, sym, ap, subst, _∙_}
-use mathlib.Core.List.{List, [], _∷_, _++_}
-use mathlib.Core.Bool.{Bool, true, false}
-use mathlib.Core.Logic.{_⊎_, inl, inr}
-use Prim.Native.Nat.{ℕ, zero, suc, _+_, _*_, _-_, _/_, _%_, _<_, _≤_}
+-- The programs that put a content into a block: the first units and then the others, and the bytes that they leave.
+-- Free units take every one of these programs.
+use mathlib.Core.Path.{_≡_, sym, ap, _∙_}
+use mathlib.Core.List.{List, [], _++_}
+use mathlib.Core.Bool.{true, false}
+use Prim.Native.Nat.{ℕ, zero, suc, _+_, _*_, _%_, _<_, _≤_}
 use native.Mathlib.Nat.{add-zero, zero-add}
 use native.Mathlib.Omega.{arith}
-use borrow.Author.Needs.{needs}
-use lib.ListN.{length, getD, set, take, drop, replicate, length-set, length-take, length-drop, take-append-drop}
+use lib.ListN.{length, take, drop, length-set, length-take, length-drop, take-append-drop}
 use lib.Seq.{paste, getD-set-same}
-use Rattle.std.specs.declared.option.Option.the-variants.{Some, None}
+use Rattle.std.specs.declared.option.Option.the-variants.{None}
 use Rattle.std.proofs.shelf.Lists.{set-set, set-getD, drop-drop}
 use Rattle.std.proofs.shelf.Edits.{paste-none, length-paste, drop-paste, paste-paste}
-use Rattle.flash.specs.Card.{Card, Shaped, bytes, isGood, put}
-use Rattle.flash.specs.Write.{Write, program, erase, isErased, part, refusal, written}
-use Rattle.flash.specs.Runs.{after, Accepted, units, programs}
+use Rattle.flash.specs.Card.{Card, bytes, isGood, put}
+use Rattle.flash.specs.Write.{program, isErased, part, refusal, written}
+use Rattle.flash.specs.Runs.{after, Accepted, units}
 use Rattle.flash.proofs.Blank.{erased-part-front, erased-part-rest}
 use Rattle.flash.proofs.Refusals.{MayProgram, may-program, program-may}
 

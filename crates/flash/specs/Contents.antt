@@ -1,4 +1,5 @@
--- Putting whole contents into a block: done exactly, refused with nothing changed, or cut by the power in one of its writes.
+-- Putting a whole content into a block: done exactly, refused with nothing changed, or cut by the power in one of its
+-- writes. These are the facts that layers above take from the two calls that write more than a unit.
 use mathlib.Core.Path.{_≡_}
 use mathlib.Core.List.{List, _∷_}
 use mathlib.Core.Bool.{Bool, true, false, _&&_}

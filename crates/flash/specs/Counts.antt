@@ -1,4 +1,5 @@
 -- How many events of each kind a history has, and counters that tell it as far as they reach.
+-- A recorder's histories are those of the device below it that its counters tell too.
 use mathlib.Core.Path.{_≡_}
 use mathlib.Core.List.{List, [], _∷_}
 use mathlib.Core.Bool.{Bool, true, false, cond, not, _&&_}

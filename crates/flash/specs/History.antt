@@ -3,7 +3,7 @@
 -- ghost history, and code that is generic in the device can extend it only by what it really asked.
 use mathlib.Core.Path.{_≡_}
 use mathlib.Core.List.{List, [], _∷_, _++_}
-use mathlib.Core.Bool.{true, false}
+use mathlib.Core.Bool.{false}
 use Rattle.flash.specs.Card.{Card, lit}
 use Rattle.flash.specs.Write.{Write, written, Torn}
 

@@ -1,4 +1,5 @@
 -- A card's blocks as they lie in one run of bytes, one behind the other.
+-- And the card that such a run is, for a device that only reads it.
 use mathlib.Core.Path.{_≡_}
 use mathlib.Core.List.{List, [], _∷_}
 use mathlib.Core.Bool.{Bool, true, false, _&&_}

@@ -1,4 +1,5 @@
--- How the outcomes of requests that follow one another are put together.
+-- How the outcomes of requests that follow one another are put together: what was asked in two runs was asked in one,
+-- and what was all done, then done or cut, is done or cut as a whole.
 use mathlib.Core.List.{List, _++_}
 use Rattle.std.specs.declared.result.Result.{Result}
 use Rattle.flash.specs.Card.{Card}

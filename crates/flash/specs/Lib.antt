@@ -7,3 +7,4 @@ pub mod Image
 pub mod Joins
 pub mod Contents
 pub mod Counts
+pub mod Cuts

@@ -1,7 +1,7 @@
 -- Several writes asked one after the other, up to the first that is refused or cut by the power.
 use mathlib.Core.Path.{_≡_}
 use mathlib.Core.List.{List, [], _∷_, _++_}
-use mathlib.Core.Bool.{Bool, true, false, cond, _&&_}
+use mathlib.Core.Bool.{Bool, cond, _&&_}
 use mathlib.Core.Logic.{_⊎_}
 use Prim.Native.Nat.{ℕ, zero, suc, _+_, _-_, _/_, _%_}
 use lib.Dec.{eqb, leb}
@@ -10,8 +10,8 @@ use Rattle.std.specs.declared.option.Option.{Option}
 use Rattle.std.specs.declared.option.Option.the-variants.{Some, None}
 use Rattle.std.specs.declared.result.Result.{Result}
 use Rattle.std.specs.declared.result.Result.the-variants.{Ok, Err}
-use Rattle.flash.specs.Card.{Card, put}
-use Rattle.flash.specs.Write.{Write, program, erase, refusal, written, Torn}
+use Rattle.flash.specs.Card.{Card}
+use Rattle.flash.specs.Write.{Write, program, refusal, written, Torn}
 use Rattle.flash.specs.History.{Event, event, write, Histories, Extends}
 use Rattle.flash.specs.declared.Refusal.{Refusal}
 use Rattle.flash.specs.declared.Refusal.the-variants.{Dark, Outside}

@@ -1,6 +1,6 @@
 // A card as it lies in a run of bytes, one block behind the other: a device for reading only, over the caller's bytes.
 // All its blocks are good, and its power never goes.
-ghost use mathlib.Core.Bool.{Bool, true, false, _&&_};
+ghost use mathlib.Core.Bool.{false, _&&_};
 ghost use mathlib.Core.List.{List};
 ghost use mathlib.Core.Path.{_≡_};
 ghost use Prim.Native.Nat.{ℕ, _+_};

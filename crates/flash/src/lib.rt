@@ -1,9 +1,8 @@
 // What a flash part is: the card that a device means, what it answers to each request, and what it leaves.
 // A board engineer implements the two traits; everything above knows a device only by them.
-ghost use mathlib.Core.Bool.{false};
 ghost use mathlib.Core.List.{List};
 ghost use mathlib.Core.Path.{_≡_};
-ghost use lib.ListN.{length, getD};
+ghost use lib.ListN.{length};
 ghost use Rattle.flash.specs.Card.{Card, Shaped, isGood};
 ghost use Rattle.flash.specs.Write.{numberOf, program, erase};
 ghost use Rattle.flash.specs.History.{Event};

@@ -1,6 +1,6 @@
 -- Refused before the first write, or what the loop did.
-use mathlib.Core.Path.{_≡_, refl, sym, _∙_}
-use mathlib.Core.Logic.{_⊎_, inl, inr}
+use mathlib.Core.Path.{refl, sym}
+use mathlib.Core.Logic.{inl}
 use Rattle.flash.proofs.Events.{extends-none}
 use Rattle.flash.proofs.Filling.{fits-from, free-fits, tried-from-runs, pasted-from-runs, takes-free, unfit-settled}
 use Rattle.flash.proofs.writing.program_units.Needs as need
