@@ -13,3 +13,6 @@ pub use nor::NorChip;
 pub use nor::NorChipRead;
 pub use nor::NorChipWrite;
 pub use unmade::Unmade;
+pub use unmade::UnmadeDebug;
+pub use unmade::UnmadeEq;
+pub use unmade::UnmadePartialEq;
