@@ -65,11 +65,12 @@ impl<D: WritableDevice> Recorder<D> {
 }
 
 // A law for proofs, at any two states of a recorder: code that is handed a new recorder and promises of its history which
-// events it added has the counters tell the number of exactly these events.
+// events it added has the counters tell the number of exactly these events. The answer is how many counters there are.
 pub fn account_holds<D: WritableDevice>(before: &Recorder<D>, after: &Recorder<D>) -> u8
-    ensures { λ _. ⌜ Account (recorded (D·WritableDevice .history (now (before .entry) .device)) (now (before .entry) .programs) (now (before .entry) .erases) (now (before .entry) .«take_ups»)) (recorded (D·WritableDevice .history (now (after .entry) .device)) (now (after .entry) .programs) (now (after .entry) .erases) (now (after .entry) .«take_ups»)) (now (after .entry) .programs) (now (after .entry) .erases) (now (after .entry) .«take_ups») ⌝ }
+    ensures counters { λ r. ⌜ r ≡ 3 ⌝ }
+    ensures law { λ _. ⌜ Account (recorded (D·WritableDevice .history (now (before .entry) .device)) (now (before .entry) .programs) (now (before .entry) .erases) (now (before .entry) .«take_ups»)) (recorded (D·WritableDevice .history (now (after .entry) .device)) (now (after .entry) .programs) (now (after .entry) .erases) (now (after .entry) .«take_ups»)) (now (after .entry) .programs) (now (after .entry) .erases) (now (after .entry) .«take_ups») ⌝ }
 {
-    0
+    3
 }
 
 // Whether a write was not refused: it was done, or the power went in it.
