@@ -1,1 +1,2 @@
+-- Lemmas on what the program makes.
 mod Root

@@ -1,1 +1,2 @@
+-- What the program makes.
 pub mod Empty

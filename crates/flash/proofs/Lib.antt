@@ -1,3 +1,4 @@
+-- Lemmas on cards, writes and runs of writes; layers above may cite them all.
 pub mod Blank
 pub mod Events
 pub mod Refusals

@@ -1,3 +1,4 @@
+-- What a flash part is: read Card, Write, Device and History first; the others build on them.
 pub mod Card
 pub mod Write
 pub mod History

@@ -1,3 +1,4 @@
+-- Lemmas on logs; layers above may cite them all. Reading has the laws.
 pub mod Linear
 pub mod Table
 pub mod Turns

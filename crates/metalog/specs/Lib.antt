@@ -1,3 +1,4 @@
+-- The log of one block: read Tag, Log and Commit first, then Laws.
 pub mod Crc
 pub mod Tag
 pub mod Log

@@ -1,3 +1,4 @@
+-- The commit writer, given a buffer of just its length, fills it with the root block's first bytes.
 use mathlib.Core.Path.{subst}
 use mathlib.Core.List.{[], _∷_}
 use lib.ListN.{replicate}

@@ -1,3 +1,4 @@
+-- The words of the superblock, byte by byte.
 use mathlib.Core.Path.{refl}
 use Rattle.cardtool.proofs.maker.superblock.Needs as need
 

@@ -1,3 +1,4 @@
+-- Two blocks written one after the other make the root pair of an empty card.
 use mathlib.Core.Path.{_∙_, ap}
 use Rattle.metalog.specs.Laws.{firstBytes}
 use Rattle.cardtool.specs.Empty.{superblockEntry}

@@ -1,3 +1,4 @@
+-- What is left of the bytes makes the whole checksum.
 use mathlib.Core.Path.{_≡_}
 use lib.ListN.{drop}
 use Rattle.metalog.specs.Crc.{crcOf}

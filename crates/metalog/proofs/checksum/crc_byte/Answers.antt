@@ -1,3 +1,4 @@
+-- Each entry of the table is what eight bits do to its place; a byte goes through the table, the rest shifts down.
 use mathlib.Core.Path.{_≡_, ap, _∙_}
 use mathlib.Core.Bool.{Bool}
 use mathlib.Core.List.{List, [], _∷_}

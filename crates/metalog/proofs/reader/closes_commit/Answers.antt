@@ -1,3 +1,4 @@
+-- The checksum is there, and it is right.
 use borrow.Author.Needs.{needs}
 use Rattle.metalog.specs.Log.{closes}
 use Rattle.metalog.proofs.reader.closes_commit.Needs as need

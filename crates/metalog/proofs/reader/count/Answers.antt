@@ -1,3 +1,4 @@
+-- One turn of the reader: a tag of a commit, the end of one, or the end of the log.
 use mathlib.Core.Path.{_≡_, sym, ap, subst, _∙_}
 use mathlib.Core.List.{[]}
 use native.Mathlib.Omega.{arith}

@@ -1,3 +1,4 @@
+-- What is left of the log makes the whole count.
 use mathlib.Core.Path.{_≡_}
 use Prim.Native.Nat.{_-_}
 use lib.ListN.{length}

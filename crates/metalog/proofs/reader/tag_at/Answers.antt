@@ -1,3 +1,4 @@
+-- The three reasons why there is no tag, and the tag.
 use borrow.Author.Needs.{needs}
 use Rattle.metalog.specs.Log.{tagAt}
 use Rattle.metalog.proofs.reader.tag_at.Needs as need

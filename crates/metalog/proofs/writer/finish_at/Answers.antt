@@ -1,3 +1,4 @@
+-- The ending tag, the checksum and the padding, one write after another.
 use mathlib.Core.Path.{_≡_, refl, sym, ap, subst, _∙_}
 use Prim.Native.Nat.{_+_, _-_, _%_, _≤_}
 use native.Mathlib.Omega.{arith}

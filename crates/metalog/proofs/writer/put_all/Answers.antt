@@ -1,3 +1,4 @@
+-- One entry more, or the one that is refused.
 use mathlib.Core.Path.{_≡_, refl, sym, ap, subst, _∙_}
 use mathlib.Core.List.{map}
 use Prim.Native.Nat.{_<_, _≤_}

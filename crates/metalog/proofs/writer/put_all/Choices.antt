@@ -1,3 +1,4 @@
+-- The entries so far are in the buffer, which is still the one that was lent.
 use mathlib.Core.List.{map}
 use mathlib.Core.Path.{_≡_}
 use denote.Ref.{name}

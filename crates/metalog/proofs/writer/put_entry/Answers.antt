@@ -1,3 +1,4 @@
+-- The tag, and its data behind it.
 use mathlib.Core.Path.{refl}
 use Rattle.metalog.proofs.Puts.{then, moved}
 use Rattle.metalog.proofs.writer.put_entry.Needs as need

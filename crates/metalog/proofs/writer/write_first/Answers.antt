@@ -1,3 +1,4 @@
+-- The revision word, the entries and the end are the encoding.
 use mathlib.Core.List.{map}
 use mathlib.Core.Path.{refl}
 use borrow.Author.Needs.{needs}

@@ -1,3 +1,4 @@
+-- The entries and the end are the encoding.
 use mathlib.Core.List.{map}
 use borrow.Author.Needs.{needs}
 use Rattle.metalog.specs.Writer.{pieceOf}

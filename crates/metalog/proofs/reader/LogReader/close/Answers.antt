@@ -1,3 +1,4 @@
+-- The two ways of a tag that ends a commit.
 use borrow.Author.Needs.{needs}
 use Rattle.metalog.specs.Log.{closing}
 use Rattle.metalog.proofs.reader.LogReader.close.Needs as need

@@ -1,3 +1,4 @@
+-- One answer for each pair of the reader's state and the kind of tag.
 use borrow.Author.Needs.{needs}
 use Rattle.metalog.specs.Log.{step, stepWith}
 use Rattle.metalog.proofs.reader.LogReader.next.Needs as need

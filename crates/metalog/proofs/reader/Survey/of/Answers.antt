@@ -1,3 +1,4 @@
+-- A log has its revision exactly where it has a finished commit.
 use mathlib.Core.Path.{_≡_, sym, ap, _∙_}
 use mathlib.Core.Logic.{inl, inr}
 use mathlib.Core.List.{List, []}

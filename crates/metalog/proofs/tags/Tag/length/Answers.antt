@@ -1,3 +1,4 @@
+-- A mask takes the remainder.
 use Prim.Native.Nat.{_/_, _^_}
 use Rattle.std.proofs.shelf.Bits.{and-mask}
 use Rattle.metalog.proofs.tags.Tag.length.Needs as need

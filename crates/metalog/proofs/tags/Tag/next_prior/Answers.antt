@@ -1,3 +1,4 @@
+-- Masks take remainders, and bit 31 is put in its place.
 use mathlib.Core.Path.{_≡_, sym, ap, _∙_}
 use Prim.Native.Nat.{_+_, _*_, _%_, _^_}
 use native.Mathlib.Omega.{arith}

@@ -1,3 +1,4 @@
+-- An entry that fits no tag, one for which there is no room, and one that is written.
 use mathlib.Core.Path.{_≡_, refl, sym, ap, subst, _∙_}
 use mathlib.Core.List.{_++_}
 use lib.Bits.{bitXor}
