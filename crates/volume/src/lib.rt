@@ -1,0 +1,6 @@
+// What a whole card holds: pairs, the list of pairs, the global state, the tree and its files, or the first fault.
+mod fault;
+
+pub use fault::Fault;
+pub use fault::Layer;
+pub use fault::What;
