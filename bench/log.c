@@ -133,14 +133,14 @@ static void put_little_endian(uint8_t *p, uint32_t word)
         p[i] = (uint8_t)(word >> (8 * i));
 }
 
-/* How the commits of a block are made: at most `tags` tags each, with data of least..most bytes. */
+/* How the commits of a block are made: of few to many tags each, as far as there is room, with data of least to most bytes. */
 struct shape {
     const char *name;
-    uint32_t tags, least, most;
+    uint32_t few, many, least, most;
 };
 
-/* A block full of commits: one more as long as a tag of `most` bytes and the end of a commit have room. */
-static void fill_block(uint8_t *block, const struct shape *shape)
+/* Fills a block with commits, as long as a tag of `most` bytes and the end of a commit have room. Gives where the log ends. */
+static size_t fill_block(uint8_t *block, const struct shape *shape)
 {
     memset(block, 0xff, BLOCK);
     put_little_endian(block, some(1000));
@@ -148,7 +148,7 @@ static void fill_block(uint8_t *block, const struct shape *shape)
     uint32_t prior = 0xffffffffu;
     size_t room = 4 + shape->most + 8 + 15;
     while (at + room <= BLOCK) {
-        uint32_t tags = 1 + some(shape->tags);
+        uint32_t tags = shape->few + some(shape->many - shape->few + 1);
         for (uint32_t k = 0; k < tags && at + room <= BLOCK; k++) {
             uint32_t length = shape->least + some(shape->most - shape->least + 1);
             uint32_t tag = some(0x500) << 20 | some(0x3ff) << 10 | length;
@@ -166,6 +166,7 @@ static void fill_block(uint8_t *block, const struct shape *shape)
         at += 8 + pad;
         from = at;
     }
+    return at;
 }
 
 /* Both must give the same of the same bytes. */
@@ -238,7 +239,8 @@ static int ascending(const void *a, const void *b)
     return (x > y) - (x < y);
 }
 
-static void measure(const char *what, const char *over, work *ours, work *plain, const uint8_t *bytes, size_t size, size_t count, size_t passes)
+/* The speed is in bytes that are read: `read` of them in each pass. */
+static void measure(const char *what, const char *over, work *ours, work *plain, const uint8_t *bytes, size_t size, size_t count, size_t passes, size_t read)
 {
     double our_time[ROUNDS], plain_time[ROUNDS], ratio[ROUNDS];
     uint64_t our_sum = 0, plain_sum = 0;
@@ -259,9 +261,9 @@ static void measure(const char *what, const char *over, work *ours, work *plain,
     qsort(our_time, ROUNDS, sizeof *our_time, ascending);
     qsort(plain_time, ROUNDS, sizeof *plain_time, ascending);
     qsort(ratio, ROUNDS, sizeof *ratio, ascending);
-    double all = (double)size * (double)count * (double)passes;
+    double all = (double)read * (double)passes;
     double our_speed = all / our_time[ROUNDS / 2], plain_speed = all / plain_time[ROUNDS / 2];
-    printf("%-8s %-22s %12.0f %12.0f   %5.2f   (%.2f to %.2f)\n", what, over, plain_speed, our_speed, our_speed / plain_speed, ratio[0], ratio[ROUNDS - 1]);
+    printf("%-8s %-22s %12.0f %14.0f %8.2f   %.2f to %.2f\n", what, over, plain_speed, our_speed, our_speed / plain_speed, ratio[0], ratio[ROUNDS - 1]);
 }
 
 static uint8_t *bytes_of(size_t length)
@@ -277,12 +279,13 @@ static uint8_t *bytes_of(size_t length)
 int main(void)
 {
     static const struct shape shapes[] = {
-        {"commits of all sizes", 8, 0, 200},
-        {"many small tags", 64, 0, 12},
-        {"one large commit", BLOCK, 900, 1023},
+        {"commits of all sizes", 1, 8, 0, 200},
+        {"many small tags", 1, 64, 0, 12},
+        {"one large commit", BLOCK, BLOCK, 500, 1023},
     };
     enum { SHAPES = sizeof shapes / sizeof *shapes };
     uint8_t *blocks[SHAPES];
+    size_t read[SHAPES];
 
     fill_table();
     uint8_t *bytes = bytes_of(CRC_BYTES);
@@ -291,8 +294,9 @@ int main(void)
     compare(bytes, CRC_BYTES);
     for (size_t s = 0; s < SHAPES; s++) {
         blocks[s] = bytes_of((size_t)BLOCK * BLOCKS);
+        read[s] = 0;
         for (size_t k = 0; k < BLOCKS; k++)
-            fill_block(blocks[s] + k * BLOCK, &shapes[s]);
+            read[s] += fill_block(blocks[s] + k * BLOCK, &shapes[s]);
         compare_blocks(blocks[s]);
     }
     printf("equal on %zu inputs\n", compared);
@@ -300,14 +304,14 @@ int main(void)
         size_t commits = 0;
         for (size_t k = 0; k < BLOCKS; k++)
             commits += plain_commits(blocks[s] + k * BLOCK, BLOCK);
-        printf("%s: %d blocks of %d bytes, %zu commits\n", shapes[s].name, BLOCKS, BLOCK, commits);
+        printf("%s: %d blocks of %d bytes, %zu commits, logs of %zu bytes in all\n", shapes[s].name, BLOCKS, BLOCK, commits, read[s]);
     }
 
-    printf("%-8s %-22s %12s %12s   %5s   %s\n", "what", "over", "C, bytes/s", "ours", "ours/C", "lowest and highest round");
-    measure("crc", "64 MiB", our_crc, c_crc, bytes, CRC_BYTES, 1, 1);
+    printf("%-8s %-22s %12s %14s %8s   %s\n", "what", "over", "C, bytes/s", "ours, bytes/s", "ours/C", "in single rounds");
+    measure("crc", "64 MiB", our_crc, c_crc, bytes, CRC_BYTES, 1, 1, CRC_BYTES);
     for (size_t s = 0; s < SHAPES; s++) {
-        measure("commits", shapes[s].name, our_commits, c_commits, blocks[s], BLOCK, BLOCKS, PASSES);
-        measure("total", shapes[s].name, our_total, c_total, blocks[s], BLOCK, BLOCKS, PASSES);
+        measure("commits", shapes[s].name, our_commits, c_commits, blocks[s], BLOCK, BLOCKS, PASSES, read[s]);
+        measure("total", shapes[s].name, our_total, c_total, blocks[s], BLOCK, BLOCKS, PASSES, read[s]);
     }
 
     for (size_t s = 0; s < SHAPES; s++)
