@@ -1,0 +1,19 @@
+// What several tests ask of a device. Most parts of the tests have blocks of 64 bytes, four units each.
+use flash::ReadableDevice;
+use flash::Refusal;
+
+// A unit as an erase leaves it, two that are sent, and the first of them torn at half.
+pub const ERASED: [u8; 16] = [0xff; 16];
+
+pub const SENT: [u8; 16] = *b"sixteen bytes ..";
+
+pub const OTHER: [u8; 16] = *b".. and sixteen !";
+
+pub const TORN: [u8; 16] = *b"sixteen \xff\xff\xff\xff\xff\xff\xff\xff";
+
+// The 16 bytes at an offset of a block.
+pub fn unit_at<D: ReadableDevice>(device: &D, block: u32, at: u32) -> Result<[u8; 16], Refusal> {
+    let mut unit = [0; 16];
+    device.read(block, at, &mut unit)?;
+    Ok(unit)
+}

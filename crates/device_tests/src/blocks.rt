@@ -1,0 +1,137 @@
+// Writing several units: a whole block anew, and units upward from an offset. Each outcome with what it leaves.
+use crate::asking::ERASED;
+use crate::asking::OTHER;
+use crate::asking::SENT;
+use crate::asking::TORN;
+use crate::asking::unit_at;
+use flash::ReadableDevice;
+use flash::Refusal;
+use flash::RefusalDebug;
+use flash::RefusalPartialEq;
+use flash::WritableDevice;
+use flash::program_units;
+use flash::write_block;
+use parts::NorChip;
+use parts::NorChipRead;
+use parts::NorChipWrite;
+use parts::UnmadeDebug;
+use std::alloc::Global;
+use std::test::*;
+
+// The two units of the tests in one piece, the first of them twice, and all three.
+const TWO: &[u8] = b"sixteen bytes .... and sixteen !";
+
+const TWICE: &[u8] = b"sixteen bytes ..sixteen bytes ..";
+
+const THREE: &[u8] = b"sixteen bytes .... and sixteen !sixteen bytes ..";
+
+// A chip of four blocks, of which block 1 is bad, and block 0 is filled.
+fn filled_chip(heap: Global) -> Result<NorChip, Fail> {
+    let mut chip = NorChip::new(heap, 64, 4, &[1])?;
+    for at in [0, 16, 32, 48] {
+        chip.program(0, at, &OTHER)?;
+    }
+    Ok(chip)
+}
+
+#[test]
+fn block_is_written_anew(rt: LibcRuntime) -> Result<(), Fail> {
+    let mut chip = filled_chip(rt.alloc())?;
+    check_eq(write_block(&mut chip, 0, &SENT), Ok(()))?;
+    check_eq(unit_at(&chip, 0, 0)?, SENT)?;
+    check_eq(unit_at(&chip, 0, 16)?, ERASED)?;
+    check_eq(unit_at(&chip, 0, 48)?, ERASED)?;
+    check_eq(write_block(&mut chip, 0, &[0x5a; 64]), Ok(()))?;
+    check_eq(unit_at(&chip, 0, 0)?, [0x5a; 16])?;
+    check_eq(unit_at(&chip, 0, 48)?, [0x5a; 16])?;
+    check_eq(write_block(&mut chip, 0, &[]), Ok(()))?;
+    check_eq(unit_at(&chip, 0, 0)?, ERASED)?;
+    check_eq(unit_at(&chip, 0, 48)?, ERASED)
+}
+
+#[test]
+fn refused_block_is_left_alone(rt: LibcRuntime) -> Result<(), Fail> {
+    let mut chip = filled_chip(rt.alloc())?;
+    chip.go_dark_at(1);
+    check_eq(write_block(&mut chip, 0, &[0; 17]), Err(Refusal::Outside))?;
+    check_eq(write_block(&mut chip, 0, &[0; 15]), Err(Refusal::Outside))?;
+    check_eq(write_block(&mut chip, 0, &[0; 80]), Err(Refusal::Outside))?;
+    check_eq(write_block(&mut chip, 1, &[0; 17]), Err(Refusal::Outside))?;
+    check_eq(write_block(&mut chip, 4, &SENT), Err(Refusal::Outside))?;
+    check_eq(write_block(&mut chip, 1, &SENT), Err(Refusal::Bad))?;
+    // None of these was a write.
+    check_eq(chip.writes_left(), 1)?;
+    check_eq(unit_at(&chip, 0, 0)?, OTHER)?;
+    check_eq(unit_at(&chip, 0, 16)?, OTHER)?;
+    check_eq(unit_at(&chip, 0, 32)?, OTHER)?;
+    check_eq(unit_at(&chip, 0, 48)?, OTHER)
+}
+
+// The power goes in the erase, in the first program or in the second; the fourth write is not asked.
+#[test]
+fn cut_block_is_written_up_to_the_cut(rt: LibcRuntime) -> Result<(), Fail> {
+    let table = [
+        (1, ERASED, ERASED, OTHER),
+        (2, TORN, ERASED, ERASED),
+        (3, SENT, TORN, ERASED),
+    ];
+    for (write, first, second, last) in table {
+        let mut chip = filled_chip(rt.alloc())?;
+        chip.go_dark_at(write);
+        check_eq(write_block(&mut chip, 0, TWICE), Err(Refusal::Dark))?;
+        check(chip.is_dark())?;
+        check_eq(write_block(&mut chip, 9, &[0; 17]), Err(Refusal::Dark))?;
+        chip.take_up();
+        check_eq(unit_at(&chip, 0, 0)?, first)?;
+        check_eq(unit_at(&chip, 0, 16)?, second)?;
+        check_eq(unit_at(&chip, 0, 48)?, last)?;
+    }
+    Ok(())
+}
+
+#[test]
+fn units_go_behind_an_offset(rt: LibcRuntime) -> Result<(), Fail> {
+    let mut chip = filled_chip(rt.alloc())?;
+    check_eq(program_units(&mut chip, 2, 16, TWO), Ok(()))?;
+    check_eq(unit_at(&chip, 2, 0)?, ERASED)?;
+    check_eq(unit_at(&chip, 2, 16)?, SENT)?;
+    check_eq(unit_at(&chip, 2, 32)?, OTHER)?;
+    check_eq(unit_at(&chip, 2, 48)?, ERASED)?;
+    check_eq(program_units(&mut chip, 3, 16, &[]), Ok(()))?;
+    check_eq(
+        program_units(&mut chip, 3, 64, &SENT),
+        Err(Refusal::Outside),
+    )?;
+    check_eq(
+        program_units(&mut chip, 3, 32, THREE),
+        Err(Refusal::Outside),
+    )?;
+    check_eq(
+        program_units(&mut chip, 3, 0, &[0; 17]),
+        Err(Refusal::Outside),
+    )?;
+    check_eq(program_units(&mut chip, 3, 8, &SENT), Err(Refusal::Outside))?;
+    check_eq(
+        program_units(&mut chip, 3, u32::MAX, &SENT),
+        Err(Refusal::Outside),
+    )?;
+    check_eq(program_units(&mut chip, 1, 0, &SENT), Err(Refusal::Bad))?;
+    check_eq(unit_at(&chip, 3, 0)?, ERASED)
+}
+
+// The unit at 32 is used: the one before it is done, and the one behind it is not asked.
+#[test]
+fn units_stop_at_a_used_one(rt: LibcRuntime) -> Result<(), Fail> {
+    let mut chip = filled_chip(rt.alloc())?;
+    chip.program(2, 32, &SENT)?;
+    check_eq(program_units(&mut chip, 2, 16, THREE), Err(Refusal::Used))?;
+    check_eq(unit_at(&chip, 2, 16)?, SENT)?;
+    check_eq(unit_at(&chip, 2, 32)?, SENT)?;
+    check_eq(unit_at(&chip, 2, 48)?, ERASED)?;
+    chip.go_dark_at(1);
+    check_eq(program_units(&mut chip, 3, 0, THREE), Err(Refusal::Dark))?;
+    check_eq(program_units(&mut chip, 3, 8, &[0; 17]), Err(Refusal::Dark))?;
+    chip.take_up();
+    check_eq(unit_at(&chip, 3, 0)?, TORN)?;
+    check_eq(unit_at(&chip, 3, 16)?, ERASED)
+}
