@@ -135,6 +135,6 @@ pub const NEXT: [u8; 32] = [
 ];
 
 // A tag that is to be written.
-pub fn part(kind: u32, id: u32, bytes: &[u8]) -> Part<'_> {
+pub(crate) fn part(kind: u32, id: u32, bytes: &[u8]) -> Part<'_> {
     Part { kind, id, bytes }
 }

@@ -36,7 +36,7 @@ fn without_end(line: &[u8]) -> &[u8] {
 }
 
 // The block that a line stands for; None where it is no hex.
-pub fn block_of(heap: Global, line: &[u8]) -> Result<Option<Vec<u8>>, AllocError> {
+pub(crate) fn block_of(heap: Global, line: &[u8]) -> Result<Option<Vec<u8>>, AllocError> {
     let mut block = Vec::new(heap);
     for signs in without_end(line).chunks(2) {
         let Some(byte) = byte_of(signs) else {

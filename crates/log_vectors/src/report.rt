@@ -64,7 +64,7 @@ fn add_entry(text: &mut String, entry: Entry<'_>) -> fmt::Result {
 }
 
 // The whole line. Tags that belong to no finished commit are dropped.
-pub fn log_line(heap: Global, block: &[u8]) -> Result<String, AnyError> {
+pub(crate) fn log_line(heap: Global, block: &[u8]) -> Result<String, AnyError> {
     let mut line = summary(heap, block)?;
     let mut begun = String::new(heap);
     let mut reader = LogReader::new(block);
