@@ -1,4 +1,5 @@
-// What several tests ask of a device. Most parts of the tests have blocks of 64 bytes, four units each.
+// What several tests ask of a device, and the units that they send.
+// Most parts of the tests have blocks of 64 bytes, four units each.
 use flash::ReadableDevice;
 use flash::Refusal;
 use flash::RefusalDebug;

@@ -1,4 +1,5 @@
-// Writing several units: a whole block anew, and units upward from an offset. Each outcome with what it leaves.
+// Writing several units: a whole block anew, and units upward from an offset.
+// Each outcome, done, refused or cut, with what it leaves in the block.
 use crate::asking::ERASED;
 use crate::asking::OTHER;
 use crate::asking::SENT;

@@ -1,4 +1,5 @@
 // The memory board: which requests it refuses and why, and that it keeps what it was sent.
+// It has no bad blocks and its power never goes, so only two of the four refusals come.
 use crate::asking::ERASED;
 use crate::asking::OTHER;
 use crate::asking::SENT;

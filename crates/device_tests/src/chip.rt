@@ -1,4 +1,5 @@
 // The NOR chip: its bad blocks, the write in which its power goes, what that write leaves, and the chip taken up again.
+// A bad block takes no program, so no unit of it is ever used: of the last two refusals never both apply.
 use crate::asking::ERASED;
 use crate::asking::OTHER;
 use crate::asking::SENT;

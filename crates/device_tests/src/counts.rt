@@ -1,4 +1,5 @@
 // The recorder: it counts what was done and what was torn, and nothing that was refused.
+// It is laid over a chip, so that there are writes of all three sorts.
 use crate::asking::SENT;
 use crate::asking::unit_at;
 use flash::ReadableDevice;
