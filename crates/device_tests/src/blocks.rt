@@ -1,9 +1,10 @@
-// Writing several units: a whole block anew, and units upward from an offset. Each outcome with what it leaves.
+// Writing several units: a whole block anew, and units upward from an offset.
+// Each outcome, done, refused or cut, with what it leaves in the block.
 use crate::asking::ERASED;
 use crate::asking::OTHER;
 use crate::asking::SENT;
 use crate::asking::TORN;
-use crate::asking::unit_at;
+use crate::asking::block_is;
 use flash::ReadableDevice;
 use flash::Refusal;
 use flash::RefusalDebug;
@@ -38,53 +39,49 @@ fn filled_chip(heap: Global) -> Result<NorChip, Fail> {
 fn block_is_written_anew(rt: LibcRuntime) -> Result<(), Fail> {
     let mut chip = filled_chip(rt.alloc())?;
     check_eq(write_block(&mut chip, 0, &SENT), Ok(()))?;
-    check_eq(unit_at(&chip, 0, 0)?, SENT)?;
-    check_eq(unit_at(&chip, 0, 16)?, ERASED)?;
-    check_eq(unit_at(&chip, 0, 48)?, ERASED)?;
+    block_is(&chip, 0, [SENT, ERASED, ERASED, ERASED])?;
     check_eq(write_block(&mut chip, 0, &[0x5a; 64]), Ok(()))?;
-    check_eq(unit_at(&chip, 0, 0)?, [0x5a; 16])?;
-    check_eq(unit_at(&chip, 0, 48)?, [0x5a; 16])?;
+    block_is(&chip, 0, [[0x5a; 16]; 4])?;
     check_eq(write_block(&mut chip, 0, &[]), Ok(()))?;
-    check_eq(unit_at(&chip, 0, 0)?, ERASED)?;
-    check_eq(unit_at(&chip, 0, 48)?, ERASED)
+    block_is(&chip, 0, [ERASED; 4])
 }
 
+// None of these is a write, so the power does not go.
 #[test]
 fn refused_block_is_left_alone(rt: LibcRuntime) -> Result<(), Fail> {
     let mut chip = filled_chip(rt.alloc())?;
     chip.go_dark_at(1);
-    check_eq(write_block(&mut chip, 0, &[0; 17]), Err(Refusal::Outside))?;
-    check_eq(write_block(&mut chip, 0, &[0; 15]), Err(Refusal::Outside))?;
-    check_eq(write_block(&mut chip, 0, &[0; 80]), Err(Refusal::Outside))?;
-    check_eq(write_block(&mut chip, 1, &[0; 17]), Err(Refusal::Outside))?;
-    check_eq(write_block(&mut chip, 4, &SENT), Err(Refusal::Outside))?;
-    check_eq(write_block(&mut chip, 1, &SENT), Err(Refusal::Bad))?;
-    // None of these was a write.
+    let table: [(u32, &[u8], Refusal); 6] = [
+        (0, &[0; 17], Refusal::Outside),
+        (0, &[0; 15], Refusal::Outside),
+        (0, &[0; 80], Refusal::Outside),
+        (1, &[0; 17], Refusal::Outside),
+        (4, &SENT, Refusal::Outside),
+        (1, &SENT, Refusal::Bad),
+    ];
+    for (block, content, refusal) in table {
+        check_eq(write_block(&mut chip, block, content), Err(refusal))?;
+    }
     check_eq(chip.writes_left(), 1)?;
-    check_eq(unit_at(&chip, 0, 0)?, OTHER)?;
-    check_eq(unit_at(&chip, 0, 16)?, OTHER)?;
-    check_eq(unit_at(&chip, 0, 32)?, OTHER)?;
-    check_eq(unit_at(&chip, 0, 48)?, OTHER)
+    block_is(&chip, 0, [OTHER; 4])
 }
 
-// The power goes in the erase, in the first program or in the second; the fourth write is not asked.
+// The power goes in the erase, in the first program or in the second.
 #[test]
 fn cut_block_is_written_up_to_the_cut(rt: LibcRuntime) -> Result<(), Fail> {
     let table = [
-        (1, ERASED, ERASED, OTHER),
-        (2, TORN, ERASED, ERASED),
-        (3, SENT, TORN, ERASED),
+        (1, [ERASED, ERASED, OTHER, OTHER]),
+        (2, [TORN, ERASED, ERASED, ERASED]),
+        (3, [SENT, TORN, ERASED, ERASED]),
     ];
-    for (write, first, second, last) in table {
+    for (write, units) in table {
         let mut chip = filled_chip(rt.alloc())?;
         chip.go_dark_at(write);
         check_eq(write_block(&mut chip, 0, TWICE), Err(Refusal::Dark))?;
         check(chip.is_dark())?;
         check_eq(write_block(&mut chip, 9, &[0; 17]), Err(Refusal::Dark))?;
         chip.take_up();
-        check_eq(unit_at(&chip, 0, 0)?, first)?;
-        check_eq(unit_at(&chip, 0, 16)?, second)?;
-        check_eq(unit_at(&chip, 0, 48)?, last)?;
+        block_is(&chip, 0, units)?;
     }
     Ok(())
 }
@@ -93,30 +90,20 @@ fn cut_block_is_written_up_to_the_cut(rt: LibcRuntime) -> Result<(), Fail> {
 fn units_go_behind_an_offset(rt: LibcRuntime) -> Result<(), Fail> {
     let mut chip = filled_chip(rt.alloc())?;
     check_eq(program_units(&mut chip, 2, 16, TWO), Ok(()))?;
-    check_eq(unit_at(&chip, 2, 0)?, ERASED)?;
-    check_eq(unit_at(&chip, 2, 16)?, SENT)?;
-    check_eq(unit_at(&chip, 2, 32)?, OTHER)?;
-    check_eq(unit_at(&chip, 2, 48)?, ERASED)?;
-    check_eq(program_units(&mut chip, 3, 16, &[]), Ok(()))?;
-    check_eq(
-        program_units(&mut chip, 3, 64, &SENT),
-        Err(Refusal::Outside),
-    )?;
-    check_eq(
-        program_units(&mut chip, 3, 32, THREE),
-        Err(Refusal::Outside),
-    )?;
-    check_eq(
-        program_units(&mut chip, 3, 0, &[0; 17]),
-        Err(Refusal::Outside),
-    )?;
-    check_eq(program_units(&mut chip, 3, 8, &SENT), Err(Refusal::Outside))?;
-    check_eq(
-        program_units(&mut chip, 3, u32::MAX, &SENT),
-        Err(Refusal::Outside),
-    )?;
-    check_eq(program_units(&mut chip, 1, 0, &SENT), Err(Refusal::Bad))?;
-    check_eq(unit_at(&chip, 3, 0)?, ERASED)
+    block_is(&chip, 2, [ERASED, SENT, OTHER, ERASED])?;
+    let table: [(u32, u32, &[u8], Result<(), Refusal>); 7] = [
+        (3, 16, &[], Ok(())),
+        (3, 64, &SENT, Err(Refusal::Outside)),
+        (3, 32, THREE, Err(Refusal::Outside)),
+        (3, 0, &[0; 17], Err(Refusal::Outside)),
+        (3, 8, &SENT, Err(Refusal::Outside)),
+        (3, u32::MAX, &SENT, Err(Refusal::Outside)),
+        (1, 0, &SENT, Err(Refusal::Bad)),
+    ];
+    for (block, at, content, answer) in table {
+        check_eq(program_units(&mut chip, block, at, content), answer)?;
+    }
+    block_is(&chip, 3, [ERASED; 4])
 }
 
 // The unit at 32 is used: the one before it is done, and the one behind it is not asked.
@@ -125,13 +112,10 @@ fn units_stop_at_a_used_one(rt: LibcRuntime) -> Result<(), Fail> {
     let mut chip = filled_chip(rt.alloc())?;
     chip.program(2, 32, &SENT)?;
     check_eq(program_units(&mut chip, 2, 16, THREE), Err(Refusal::Used))?;
-    check_eq(unit_at(&chip, 2, 16)?, SENT)?;
-    check_eq(unit_at(&chip, 2, 32)?, SENT)?;
-    check_eq(unit_at(&chip, 2, 48)?, ERASED)?;
+    block_is(&chip, 2, [ERASED, SENT, SENT, ERASED])?;
     chip.go_dark_at(1);
     check_eq(program_units(&mut chip, 3, 0, THREE), Err(Refusal::Dark))?;
     check_eq(program_units(&mut chip, 3, 8, &[0; 17]), Err(Refusal::Dark))?;
     chip.take_up();
-    check_eq(unit_at(&chip, 3, 0)?, TORN)?;
-    check_eq(unit_at(&chip, 3, 16)?, ERASED)
+    block_is(&chip, 3, [TORN, ERASED, ERASED, ERASED])
 }

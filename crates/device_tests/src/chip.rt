@@ -1,9 +1,10 @@
 // The NOR chip: its bad blocks, the write in which its power goes, what that write leaves, and the chip taken up again.
+// A bad block takes no program, so no unit of it is ever used: of the last two refusals never both apply.
 use crate::asking::ERASED;
 use crate::asking::OTHER;
 use crate::asking::SENT;
 use crate::asking::TORN;
-use crate::asking::unit_at;
+use crate::asking::block_is;
 use flash::ReadableDevice;
 use flash::Refusal;
 use flash::RefusalDebug;
@@ -21,14 +22,20 @@ fn bad_blocks_are_refused_behind_outside(rt: LibcRuntime) -> Result<(), Fail> {
     let mut chip = NorChip::new(rt.alloc(), 64, 4, &[1, 9])?;
     check(chip.is_good(0) && !chip.is_good(1) && chip.is_good(2) && chip.is_good(3))?;
     check(!chip.is_good(4) && !chip.is_good(9))?;
-    check_eq(chip.program(1, 0, &SENT), Err(Refusal::Bad))?;
-    check_eq(chip.program(1, 8, &SENT), Err(Refusal::Outside))?;
-    check_eq(chip.program(9, 0, &SENT), Err(Refusal::Outside))?;
+    let table = [
+        (1, 0, Err(Refusal::Bad)),
+        (1, 8, Err(Refusal::Outside)),
+        (9, 0, Err(Refusal::Outside)),
+        (0, 0, Ok(())),
+        (0, 0, Err(Refusal::Used)),
+    ];
+    for (block, at, answer) in table {
+        check_eq(chip.program(block, at, &SENT), answer)?;
+    }
     check_eq(chip.erase(1), Err(Refusal::Bad))?;
     check_eq(chip.erase(9), Err(Refusal::Outside))?;
-    check_eq(unit_at(&chip, 1, 0)?, ERASED)?;
-    check_eq(chip.program(0, 0, &SENT), Ok(()))?;
-    check_eq(chip.program(0, 0, &OTHER), Err(Refusal::Used))
+    // A bad block can be read.
+    block_is(&chip, 1, [ERASED; 4])
 }
 
 #[test]
@@ -38,11 +45,9 @@ fn refused_writes_are_not_counted(rt: LibcRuntime) -> Result<(), Fail> {
     check_eq(chip.erase(0), Ok(()))?;
     check_eq(chip.erase(1), Err(Refusal::Bad))?;
     check_eq(chip.erase(4), Err(Refusal::Outside))?;
-    check_eq(chip.writes_left(), 2)?;
     check_eq(chip.program(0, 0, &SENT), Ok(()))?;
     check_eq(chip.program(0, 0, &SENT), Err(Refusal::Used))?;
-    check_eq(chip.writes_left(), 1)?;
-    check(!chip.is_dark())?;
+    check_eq((chip.writes_left(), chip.is_dark()), (1, false))?;
     check_eq(chip.program(0, 16, &SENT), Err(Refusal::Dark))?;
     check(chip.is_dark())
 }
@@ -51,17 +56,14 @@ fn refused_writes_are_not_counted(rt: LibcRuntime) -> Result<(), Fail> {
 fn dark_chip_refuses_everything_else(rt: LibcRuntime) -> Result<(), Fail> {
     let mut chip = NorChip::new(rt.alloc(), 64, 4, &[1])?;
     chip.go_dark_at(1);
-    check_eq(chip.erase(0), Err(Refusal::Dark))?;
-    check_eq(chip.program(0, 0, &SENT), Err(Refusal::Dark))?;
-    check_eq(chip.program(9, 3, &[]), Err(Refusal::Dark))?;
-    check_eq(chip.erase(1), Err(Refusal::Dark))?;
-    check_eq(chip.erase(9), Err(Refusal::Dark))?;
-    let mut out = [7; 4];
-    check_eq(chip.read(0, 0, &mut out), Err(Refusal::Dark))?;
-    check_eq(chip.read(9, 0, &mut out), Err(Refusal::Dark))?;
-    check_eq(out, [7; 4])?;
-    check_eq(chip.block_size(), 64)?;
-    check_eq(chip.block_count(), 4)?;
+    for block in [0, 0, 1, 9] {
+        check_eq(chip.erase(block), Err(Refusal::Dark))?;
+        check_eq(chip.program(block, 3, &[]), Err(Refusal::Dark))?;
+        let mut out = [7; 4];
+        check_eq(chip.read(block, 0, &mut out), Err(Refusal::Dark))?;
+        check_eq(out, [7; 4])?;
+    }
+    check_eq((chip.block_size(), chip.block_count()), (64, 4))?;
     check(chip.is_good(0) && !chip.is_good(1) && chip.is_dark())
 }
 
@@ -72,9 +74,7 @@ fn program_is_torn_at_half(rt: LibcRuntime) -> Result<(), Fail> {
     chip.go_dark_at(1);
     check_eq(chip.program(2, 16, &SENT), Err(Refusal::Dark))?;
     chip.take_up();
-    check_eq(unit_at(&chip, 2, 0)?, OTHER)?;
-    check_eq(unit_at(&chip, 2, 16)?, TORN)?;
-    check_eq(unit_at(&chip, 2, 32)?, ERASED)
+    block_is(&chip, 2, [OTHER, TORN, ERASED, ERASED])
 }
 
 #[test]
@@ -87,11 +87,8 @@ fn erase_is_torn_at_half(rt: LibcRuntime) -> Result<(), Fail> {
     chip.go_dark_at(1);
     check_eq(chip.erase(2), Err(Refusal::Dark))?;
     chip.take_up();
-    check_eq(unit_at(&chip, 2, 0)?, ERASED)?;
-    check_eq(unit_at(&chip, 2, 16)?, ERASED)?;
-    check_eq(unit_at(&chip, 2, 32)?, SENT)?;
-    check_eq(unit_at(&chip, 2, 48)?, SENT)?;
-    check_eq(unit_at(&chip, 3, 0)?, OTHER)
+    block_is(&chip, 2, [ERASED, ERASED, SENT, SENT])?;
+    block_is(&chip, 3, [OTHER; 4])
 }
 
 #[test]
@@ -101,28 +98,24 @@ fn taken_up_chip_stays_on(rt: LibcRuntime) -> Result<(), Fail> {
     chip.go_dark_at(1);
     check_eq(chip.erase(2), Err(Refusal::Dark))?;
     chip.take_up();
-    check(!chip.is_dark() && chip.is_good(0) && !chip.is_good(1))?;
-    check_eq(unit_at(&chip, 0, 0)?, SENT)?;
-    check_eq(chip.writes_left(), 0)?;
+    check(!chip.is_dark() && chip.is_good(0) && !chip.is_good(1) && chip.writes_left() == 0)?;
+    block_is(&chip, 0, [SENT, ERASED, ERASED, ERASED])?;
     for at in [16, 32, 48] {
         check_eq(chip.program(0, at, &OTHER), Ok(()))?;
     }
-    check_eq(chip.erase(0), Ok(()))?;
-    check(!chip.is_dark())
+    check_eq((chip.erase(0), chip.is_dark()), (Ok(()), false))
 }
 
 // Powering up a chip whose power is on changes nothing, and a chip that is told anew goes dark again.
 #[test]
 fn chip_is_told_anew(rt: LibcRuntime) -> Result<(), Fail> {
     let mut chip = NorChip::new(rt.alloc(), 64, 4, &[])?;
-    chip.go_dark_at(2);
-    chip.take_up();
-    check_eq(chip.erase(0), Ok(()))?;
-    check_eq(chip.erase(0), Err(Refusal::Dark))?;
-    chip.go_dark_at(2);
-    chip.take_up();
-    check_eq(chip.erase(0), Ok(()))?;
-    check_eq(chip.erase(0), Err(Refusal::Dark))?;
+    for _ in 0..2 {
+        chip.go_dark_at(2);
+        chip.take_up();
+        check_eq(chip.erase(0), Ok(()))?;
+        check_eq(chip.erase(0), Err(Refusal::Dark))?;
+    }
     chip.take_up();
     chip.go_dark_at(1);
     chip.go_dark_at(0);

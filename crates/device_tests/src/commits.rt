@@ -1,4 +1,5 @@
-// Commits as they are written: the worked examples byte for byte, and what is refused, at the edge of each limit.
+// Commits as they are written: the worked examples byte for byte, and what is refused.
+// Each limit is tried on both sides of its edge.
 ghost use Prim.Native.Nat.{_<_};
 use crate::cards::FIRST;
 use crate::cards::NEXT;

@@ -1,4 +1,5 @@
 // The recorder: it counts what was done and what was torn, and nothing that was refused.
+// It is laid over a chip, so that there are writes of all three sorts.
 use crate::asking::SENT;
 use crate::asking::unit_at;
 use flash::ReadableDevice;
@@ -16,63 +17,54 @@ use parts::NorChipWrite;
 use parts::UnmadeDebug;
 use std::test::*;
 
+// The programs, the erases and the take-ups that were counted.
+fn counts(device: &Recorder<NorChip>) -> (u64, u64, u64) {
+    (device.programs(), device.erases(), device.take_ups())
+}
+
 #[test]
 fn recorder_counts_what_is_not_refused(rt: LibcRuntime) -> Result<(), Fail> {
     let mut device = Recorder::new(NorChip::new(rt.alloc(), 64, 4, &[1])?);
-    check_eq(device.program(0, 0, &SENT), Ok(()))?;
-    check_eq(device.program(0, 0, &SENT), Err(Refusal::Used))?;
-    check_eq(device.program(1, 0, &SENT), Err(Refusal::Bad))?;
-    check_eq(device.program(0, 8, &SENT), Err(Refusal::Outside))?;
+    let table = [
+        (0, 0, Ok(())),
+        (0, 0, Err(Refusal::Used)),
+        (1, 0, Err(Refusal::Bad)),
+        (0, 8, Err(Refusal::Outside)),
+    ];
+    for (block, at, answer) in table {
+        check_eq(device.program(block, at, &SENT), answer)?;
+    }
     check_eq(device.erase(1), Err(Refusal::Bad))?;
     check_eq(device.erase(4), Err(Refusal::Outside))?;
-    check_eq(
-        (device.programs(), device.erases(), device.take_ups()),
-        (1, 0, 0),
-    )?;
+    check_eq(counts(&device), (1, 0, 0))?;
     // An erase and four programs.
     check_eq(write_block(&mut device, 2, &[0; 64]), Ok(()))?;
-    check_eq(
-        (device.programs(), device.erases(), device.take_ups()),
-        (5, 1, 0),
-    )?;
     device.take_up();
-    check_eq(
-        (device.programs(), device.erases(), device.take_ups()),
-        (5, 1, 1),
-    )?;
+    check_eq(counts(&device), (5, 1, 1))?;
     check_eq(unit_at(&device.into_inner(), 0, 0)?, SENT)
 }
 
+// The erase and one program are done, the second program is torn; what is asked in the dark is refused.
 #[test]
 fn recorder_counts_what_is_torn(rt: LibcRuntime) -> Result<(), Fail> {
     let mut chip = NorChip::new(rt.alloc(), 64, 4, &[1])?;
     chip.go_dark_at(3);
     let mut device = Recorder::new(chip);
-    // The erase and one program are done, the second program is torn.
     check_eq(write_block(&mut device, 0, &[0; 64]), Err(Refusal::Dark))?;
-    check(device.is_dark())?;
-    check_eq(
-        (device.programs(), device.erases(), device.take_ups()),
-        (2, 1, 0),
-    )?;
+    check_eq((counts(&device), device.is_dark()), ((2, 1, 0), true))?;
     check_eq(device.program(0, 48, &SENT), Err(Refusal::Dark))?;
     check_eq(device.erase(0), Err(Refusal::Dark))?;
-    check_eq(
-        (device.programs(), device.erases(), device.take_ups()),
-        (2, 1, 0),
-    )?;
+    check_eq(counts(&device), (2, 1, 0))?;
     device.take_up();
     check_eq(device.erase(0), Ok(()))?;
-    check_eq(
-        (device.programs(), device.erases(), device.take_ups()),
-        (2, 2, 1),
-    )?;
-    let mut chip = device.into_inner();
+    check_eq(counts(&device), (2, 2, 1))
+}
+
+#[test]
+fn recorder_counts_a_torn_erase(rt: LibcRuntime) -> Result<(), Fail> {
+    let mut chip = NorChip::new(rt.alloc(), 64, 4, &[1])?;
     chip.go_dark_at(1);
     let mut device = Recorder::new(chip);
     check_eq(device.erase(0), Err(Refusal::Dark))?;
-    check_eq(
-        (device.programs(), device.erases(), device.take_ups()),
-        (0, 1, 0),
-    )
+    check_eq(counts(&device), (0, 1, 0))
 }

@@ -1,4 +1,5 @@
-// Files as skip lists: where places stand at the edges of blocks and of the largest file, and how many blocks there are.
+// Files as skip lists: where places stand at the edges of blocks and of the largest file, how many blocks there are, and
+// which words a block begins with. The numbers of the largest file are those of a count block by block.
 use skiplist::BlockSize;
 use skiplist::BlockSizeDebug;
 use skiplist::BlockSizePartialEq;

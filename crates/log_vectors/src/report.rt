@@ -1,4 +1,5 @@
 // The line that says what the log of a block is: the survey of it, and then each finished commit as the reader gives it.
+// The two are printed each for itself, so a line shows where they disagree.
 use flash::is_erased;
 use metalog::Entry;
 use metalog::Item;
