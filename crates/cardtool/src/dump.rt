@@ -130,7 +130,7 @@ fn show_log(rt: &LibcRuntime, block: &[u8]) -> io::Result<()> {
 }
 
 // The command `log FILE B BLOCK`.
-pub fn show_block(rt: &LibcRuntime, words: &[String]) -> Result<(), AnyError> {
+pub(crate) fn show_block(rt: &LibcRuntime, words: &[String]) -> Result<(), AnyError> {
     let [_, file, size, block] = words else {
         return Err("write it as: log FILE B BLOCK".into());
     };

@@ -91,7 +91,7 @@ fn made(board: Result<MemoryBoard, Unmade>) -> Result<MemoryBoard, AnyError> {
 }
 
 // The command `new FILE B N`.
-pub fn make_card(rt: &LibcRuntime, words: &[String]) -> Result<(), AnyError> {
+pub(crate) fn make_card(rt: &LibcRuntime, words: &[String]) -> Result<(), AnyError> {
     let [_, file, size, count] = words else {
         return Err("write it as: new FILE B N".into());
     };

@@ -1,9 +1,11 @@
 // The numbers among a command's words.
+ghost use Prim.Native.Nat.{_≤_};
+ghost use Rattle.std.specs.Vec.{made};
 use skiplist::BlockSize;
 use std::error::AnyError;
 
 // A decimal number.
-pub fn number(word: &str) -> Result<u32, AnyError> {
+pub(crate) fn number(word: &str) -> Result<u32, AnyError> {
     match word.parse::<u32>() {
         Ok(n) => Ok(n),
         Err(_) => Err("a number is decimal, and below 4294967296".into()),
@@ -11,7 +13,7 @@ pub fn number(word: &str) -> Result<u32, AnyError> {
 }
 
 // One of the four block sizes.
-pub fn block_size(word: &str) -> Result<BlockSize, AnyError> {
+pub(crate) fn block_size(word: &str) -> Result<BlockSize, AnyError> {
     match BlockSize::of(number(word)?) {
         Some(size) => Ok(size),
         None => Err("the block size is 512, 1024, 2048 or 4096".into()),
@@ -19,7 +21,9 @@ pub fn block_size(word: &str) -> Result<BlockSize, AnyError> {
 }
 
 // How many blocks a card may have.
-pub fn block_count(word: &str) -> Result<u32, AnyError> {
+pub(crate) fn block_count(word: &str) -> Result<u32, AnyError>
+    ensures { λ r. ⌜ made r (λ n. (8 ≤ n) × (n ≤ 4096)) ⌝ }
+{
     let count = number(word)?;
     if count < 8 || count > 4096 {
         return Err("a card has 8 to 4096 blocks".into());

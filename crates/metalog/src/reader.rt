@@ -43,8 +43,8 @@ pub enum Item<'a> {
 }
 
 // Where a reader stands.
-#[derive(Clone, Copy, PartialEq, Eq, Debug)]
-pub enum State {
+#[derive(Clone, Copy)]
+enum State {
     // In a commit whose bytes so far have this checksum.
     Inside(u32),
     // Behind a finished commit.

@@ -146,10 +146,11 @@ impl<'a> CommitWriter<'a> {
         ensures { λ _. ⌜ now (self .exit .0) ≡ now (self .entry .buffer) ⌝ }
     {
         let CommitWriter {
-            buffer: _,
+            buffer,
             used: _,
             prior: _,
         } = self;
+        let _ = buffer; // as it is
     }
 }
 
