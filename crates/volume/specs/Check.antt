@@ -101,10 +101,10 @@ pub data Fit : Type 0 where
 
 abbrev pub fitWith : state.Name → Option Struct → Fit
 fitWith n c = elim (n .kind) [
-    state.file ↦ elim c [ None ↦ unfit | Some s ↦ elim s [ pair a b ↦ unfit | inline xs ↦ file-inline (n .bytes) xs | skip h size ↦ file-skip (n .bytes) h size ] ]
+  | state.file ↦ elim c [ None ↦ unfit | Some s ↦ elim s [ pair a b ↦ unfit | inline xs ↦ file-inline (n .bytes) xs | skip h size ↦ file-skip (n .bytes) h size ] ]
   | state.directory ↦ elim c [ None ↦ unfit | Some s ↦ elim s [ pair a b ↦ dir-pair (n .bytes) a b | inline xs ↦ unfit | skip h size ↦ unfit ] ]
   | state.superblock ↦ elim c [ None ↦ unfit | Some s ↦ elim s [ pair a b ↦ unfit | inline xs ↦ extra-superblock | skip h size ↦ unfit ] ]
-  ]
+]
 
 abbrev pub fitOf : Slot → Fit
 fitOf x = elim (x .name) [ None ↦ unfit | Some n ↦ fitWith n (x .content) ]
@@ -227,5 +227,5 @@ unfoldable pub check : Card → Result Reading Fault
 check c =
     cond (c .dark) (Err (fault what.Dark 0 0))
     (cond (isSize (c .size) (length (c .blocks)))
-      (cond (isGood c 0) (cond (isGood c 1) (checkList c (thread c)) (Err (fault what.RootBlock 1 0))) (Err (fault what.RootBlock 0 0)))
-      (Err (fault what.Size 0 0)))
+    (cond (isGood c 0) (cond (isGood c 1) (checkList c (thread c)) (Err (fault what.RootBlock 1 0))) (Err (fault what.RootBlock 0 0)))
+    (Err (fault what.Size 0 0)))

@@ -58,11 +58,12 @@ judged a b block (wrong at) = Err (fault Tag block at)
 abbrev pub readAt : Card → ℕ → ℕ → ℕ → Result Pair Fault
 readAt c a b block = judged a b block (foldCommits start (sealedOf (bytes c block)))
 
+abbrev pub readBy : Choice → Card → ℕ → ℕ → Result Pair Fault
+readBy first c a b = readAt c a b a
+readBy second c a b = readAt c a b b
+readBy no-commit c a b = Err (fault NoCommit a 0)
+readBy no-newer c a b = Err (fault NoNewer a 0)
+
+-- THE PAIR of two blocks, or a fault of its log
 unfoldable pub readPair : Card → ℕ → ℕ → Result Pair Fault
-readPair c a b =
-    elim (choice (bytes c a) (bytes c b)) [
-      first ↦ readAt c a b a
-    | second ↦ readAt c a b b
-    | no-commit ↦ Err (fault NoCommit a 0)
-    | no-newer ↦ Err (fault NoNewer a 0)
-    ]
+readPair c a b = readBy (choice (bytes c a) (bytes c b)) c a b

@@ -70,15 +70,16 @@ abbrev pub accepted : Option What → Pair → Result (List Pair) Fault → Resu
 accepted (Some w) p rest = Err (fault w (p .block) 0)
 accepted None p rest = before p rest
 
+-- what follows from a pair that was read
+abbrev pub walked : Card → List ℕ → (ℕ → ℕ → Result (List Pair) Fault) → Result Pair Fault → Result (List Pair) Fault
+walked c seen go (Err f) = Err f
+walked c seen go (Ok p) = accepted (pairFault c seen p) p (behind go (nextOf (p .state .tail)))
+
 -- The pairs from a pair of blocks on, with the blocks of those before it and its own in `seen`. Each pair has two new
 -- blocks, so there are no more pairs than the card has blocks.
 unfoldable pub walk : ℕ → Card → List ℕ → ℕ → ℕ → Result (List Pair) Fault
 walk zero c seen a b = Err (fault NoCommit a 0)
-walk (suc n) c seen a b =
-    elim (readPair c a b) [
-      Err f ↦ Err f
-    | Ok p ↦ accepted (pairFault c seen p) p (behind (λ a′ b′. walk n c (a′ ∷ b′ ∷ seen) a′ b′) (nextOf (p .state .tail)))
-    ]
+walk (suc n) c seen a b = walked c seen (λ a′ b′. walk n c (a′ ∷ b′ ∷ seen) a′ b′) (readPair c a b)
 
 -- THE LIST OF PAIRS
 abbrev pub thread : Card → Result (List Pair) Fault

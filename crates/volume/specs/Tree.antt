@@ -43,6 +43,7 @@ mutual
   pub data Node : Type 0 where
     file : List ℕ → Node
     directory : Entries → Node
+
   pub data Entries : Type 0 where
     none : Entries
     entry : Name → Node → Entries → Entries

@@ -1,0 +1,6 @@
+-- Lemmas on what a card holds; layers above may cite them all.
+pub mod Lists
+pub mod FileFrames
+pub mod ScanFrames
+pub mod Frames
+pub mod Computed

@@ -1,0 +1,28 @@
+-- What holds of every card that can be read.
+use mathlib.Core.Path.{_≡_}
+use mathlib.Core.Bool.{true}
+use mathlib.Core.List.{List}
+use Prim.Native.Nat.{ℕ}
+use lib.ListN.{length}
+use Rattle.std.specs.declared.result.Result.the-variants.{Ok}
+use Rattle.flash.specs.Card.{Card, bytes}
+use Rattle.volume.specs.Thread.{member}
+use Rattle.volume.specs.Check.{check, Reading}
+use Rattle.volume.specs.Examples.{Examples}
+
+-- two cards of one shape, with the same good blocks, that hold the same in some blocks
+pub record Agree (bs : List ℕ) (c d : Card) : Type 0 where
+  pub size : d .size ≡ c .size
+  pub count : length (d .blocks) ≡ length (c .blocks)
+  pub good : d .good ≡ c .good
+  pub dark : d .dark ≡ c .dark
+  pub same : (b : ℕ) → member b bs ≡ true → bytes d b ≡ bytes c b
+
+-- What is written to blocks that are not used changes nothing of what a card holds.
+abbrev pub Frame : Type 0
+Frame = (c d : Card) (r : Reading) → check c ≡ Ok r → Agree (r .used) c d → check d ≡ Ok r
+
+-- All laws of what a card holds.
+pub record CardLaws : Type 0 where
+  pub frame : Frame
+  pub examples : Examples
