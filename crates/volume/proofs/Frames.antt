@@ -25,22 +25,22 @@ use Rattle.volume.proofs.ScanFrames.{Framed, Grows, dir-framed}
 -- ---- the tree and the orphans
 
 -- a reading comes from a tree that was read
-record Read (rs : Scan Entries) (r : Reading) : Type 0 where
-  x : Entries × Met
-  is : rs ≡ Ok x
-  used : r .used ≡ x .1 .seen
+pub record Read (rs : Scan Entries) (r : Reading) : Type 0 where
+  pub x : Entries × Met
+  pub is : rs ≡ Ok x
+  pub used : r .used ≡ x .1 .seen
 
 settled : (ps : List Pair) (sync : Bool) (h : Hiding) (os : List Dir) (rs : Scan Entries) (r : Reading) → settle ps sync h os rs ≡ Ok r → Read rs r
 settled ps sync h os (Err f) r e = absurd (no-answer f r e)
 settled ps sync h os (Ok x) r e = record { x = x; is = refl; used = sym (ap (λ (v : Reading). v .used) (same-answer _ r e)) }
 
-read-tree : (ps : List Pair) (sync : Bool) (h : Hiding) (os : List Dir) (rs : Scan Entries) (r : Reading) → orphaned ps sync h os rs ≡ Ok r → Read rs r
+pub read-tree : (ps : List Pair) (sync : Bool) (h : Hiding) (os : List Dir) (rs : Scan Entries) (r : Reading) → orphaned ps sync h os rs ≡ Ok r → Read rs r
 read-tree ps true h os rs r e = settled ps true h os rs r e
 read-tree ps false h [] rs r e = settled ps false h [] rs r e
 read-tree ps false h (d ∷ ds) (Ok x) r e = absurd (no-answer _ r e)
 read-tree ps false h (d ∷ ds) (Err f) r e = absurd (no-answer f r e)
 
-abbrev begin : List Pair → Met
+abbrev pub begin : List Pair → Met
 begin ps = record { seen = pairBlocks ps; dirs = [] }
 
 -- the tree is the same, and the list's blocks are among those used
@@ -95,7 +95,7 @@ list-same c d r a e = by (thread c) refl e
 -- ---- the whole
 
 -- the tests before the list, over what they are of
-abbrev tests : Bool → Bool → Bool → Bool → Result Reading Fault → Result Reading Fault
+abbrev pub tests : Bool → Bool → Bool → Bool → Result Reading Fault → Result Reading Fault
 tests dark size good-0 good-1 r =
     cond dark (Err (fault what.Dark 0 0)) (cond size (cond good-0 (cond good-1 r (Err (fault what.RootBlock 1 0))) (Err (fault what.RootBlock 0 0))) (Err (fault what.Size 0 0)))
 
@@ -105,6 +105,14 @@ passed false false g0 g1 t u r f e = absurd (no-answer _ r e)
 passed false true false g1 t u r f e = absurd (no-answer _ r e)
 passed false true true false t u r f e = absurd (no-answer _ r e)
 passed false true true true t u r f e = f e
+
+-- a card that is read passes all of them
+pub passes : (dark size good-0 good-1 : Bool) (t : Result Reading Fault) (r : Reading) → tests dark size good-0 good-1 t ≡ Ok r → t ≡ Ok r
+passes true size g0 g1 t r e = absurd (no-answer _ r e)
+passes false false g0 g1 t r e = absurd (no-answer _ r e)
+passes false true false g1 t r e = absurd (no-answer _ r e)
+passes false true true false t r e = absurd (no-answer _ r e)
+passes false true true true t r e = e
 
 pub frame : Frame
 unfolding check

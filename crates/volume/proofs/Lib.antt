@@ -4,3 +4,5 @@ pub mod FileFrames
 pub mod ScanFrames
 pub mod Frames
 pub mod Computed
+pub mod Aparts
+pub mod ServesOnce

@@ -89,7 +89,7 @@ framed-unless c d m block None r s p = p
 framed-unless c d m block (Some w) r s p = framed-refused c d m _ _
 
 -- a skip-list file that is met: its blocks are among what was met
-abbrev met-file : Card → Name → ℕ → ℕ → Met → Scan (Name × Node)
+abbrev pub met-file : Card → Name → ℕ → ℕ → Met → Scan (Name × Node)
 met-file c n h size m = Ok ((n, file (fileBytes c h size)), record { seen = fileBlocks c h size ++ m .seen; dirs = m .dirs })
 
 file-blocks-met : (c d : Card) (n : Name) (h size : ℕ) (m : Met) (z : (Name × Node) × Met) → met-file c n h size m ≡ Ok z → Same (z .1 .seen) c d → Same (fileBlocks c h size) c d

@@ -1,7 +1,7 @@
 -- What holds of every card that can be read.
 use mathlib.Core.Path.{_≡_}
-use mathlib.Core.Bool.{true}
-use mathlib.Core.List.{List}
+use mathlib.Core.Bool.{true, false}
+use mathlib.Core.List.{List, [], _∷_}
 use Prim.Native.Nat.{ℕ}
 use lib.ListN.{length}
 use Rattle.std.specs.declared.result.Result.the-variants.{Ok}
@@ -22,7 +22,17 @@ pub record Agree (bs : List ℕ) (c d : Card) : Type 0 where
 abbrev pub Frame : Type 0
 Frame = (c d : Card) (r : Reading) → check c ≡ Ok r → Agree (r .used) c d → check d ≡ Ok r
 
+-- no number is in the list twice
+abbrev pub Apart : List ℕ → Type 0
+Apart [] = Unit {0}
+Apart (x ∷ xs) = (member x xs ≡ false) × Apart xs
+
+-- No block serves twice: the blocks of the list and of the tree's files are all different.
+abbrev pub ServesOnce : Type 0
+ServesOnce = (c : Card) (r : Reading) → check c ≡ Ok r → Apart (r .used)
+
 -- All laws of what a card holds.
 pub record CardLaws : Type 0 where
   pub frame : Frame
+  pub serves-once : ServesOnce
   pub examples : Examples

@@ -5,8 +5,8 @@ ghost use Rattle.volume.specs.Laws.{CardLaws};
 
 // The answer is how many laws there are.
 pub fn laws_hold() -> u8
-    ensures laws { λ r. ⌜ r ≡ 2 ⌝ }
+    ensures laws { λ r. ⌜ r ≡ 3 ⌝ }
     ensures law { λ _. ⌜ CardLaws ⌝ }
 {
-    2
+    3
 }
