@@ -12,8 +12,8 @@ use Rattle.std.specs.declared.option.Option.the-variants.{Some, None}
 use Rattle.std.specs.declared.result.Result.{Result}
 use Rattle.std.specs.declared.result.Result.the-variants.{Ok, Err}
 use Rattle.flash.specs.Card.{Card, bytes, isGood}
-use Rattle.volume.specs.State.{State, start, Tail, Folded, state, wrong, foldCommits, sizeOf}
-use Rattle.volume.specs.Pair.{Pair, fault, sealedOf, Choice, first, second, no-commit, no-newer, choice, judged, readAt, readBy, readPair}
+use Rattle.volume.specs.State.{State, start, Tail, Folded, state, wrong, foldItems, sizeOf}
+use Rattle.volume.specs.Pair.{Pair, fault, finishedOf, Choice, first, second, no-commit, no-newer, choice, judged, readAt, readBy, readPair}
 use Rattle.volume.specs.Thread.{Next, ends, goes, nextOf, usable, serves, member, tailFault, fullFault, firstOf, pairFault, before, behind, accepted, walked, walk}
 use Rattle.volume.specs.Check.{pairBlocks}
 use Rattle.volume.specs.declared.fault.Fault.{Fault}
@@ -36,8 +36,8 @@ judged-blocks a b block (state s) p e =
 judged-blocks a b block (wrong at) p e = absurd (no-answer _ p e)
 
 by-blocks : (k : Choice) (c : Card) (a b : ℕ) (p : Pair) → readBy k c a b ≡ Ok p → (p .a ≡ a) × (p .b ≡ b)
-by-blocks first c a b p e = judged-blocks a b a (foldCommits start (sealedOf (bytes c a))) p e
-by-blocks second c a b p e = judged-blocks a b b (foldCommits start (sealedOf (bytes c b))) p e
+by-blocks first c a b p e = judged-blocks a b a (foldItems start (finishedOf (bytes c a))) p e
+by-blocks second c a b p e = judged-blocks a b b (foldItems start (finishedOf (bytes c b))) p e
 by-blocks no-commit c a b p e = absurd (no-answer _ p e)
 by-blocks no-newer c a b p e = absurd (no-answer _ p e)
 
@@ -48,8 +48,8 @@ pair-blocks c a b p e = by-blocks (choice (bytes c a) (bytes c b)) c a b p e
 -- ---- a pair depends only on its two blocks
 
 by-same : (k : Choice) (c d : Card) (a b : ℕ) → bytes d a ≡ bytes c a → bytes d b ≡ bytes c b → readBy k d a b ≡ readBy k c a b
-by-same first c d a b p q = ap (λ xs. judged a b a (foldCommits start (sealedOf xs))) p
-by-same second c d a b p q = ap (λ xs. judged a b b (foldCommits start (sealedOf xs))) q
+by-same first c d a b p q = ap (λ xs. judged a b a (foldItems start (finishedOf xs))) p
+by-same second c d a b p q = ap (λ xs. judged a b b (foldItems start (finishedOf xs))) q
 by-same no-commit c d a b p q = refl
 by-same no-newer c d a b p q = refl
 

@@ -11,38 +11,39 @@ use Rattle.std.specs.declared.result.Result.{Result}
 use Rattle.std.specs.declared.result.Result.the-variants.{Ok, Err}
 use Rattle.flash.specs.Card.{Card, bytes}
 use Rattle.flash.specs.Write.{Write, program, erase, target, intended}
-use Rattle.metalog.specs.Log.{Entry}
+use Rattle.metalog.specs.Log.{Entry, Item, held, ended}
 use Rattle.metalog.specs.Tag.{le32}
 use Rattle.volume.specs.declared.fault.Fault.{Fault}
 use Rattle.volume.specs.declared.fault.What.{What}
-use Rattle.volume.specs.State.{State, Commit}
-use Rattle.volume.specs.Pair.{Pair, readPair, sealedOf}
+use Rattle.volume.specs.State.{State}
+use Rattle.volume.specs.Pair.{Pair, readPair, finishedOf}
 use Rattle.volume.specs.Thread.{Next, ends, goes, nextOf, pairFault, member}
 
--- a commit as it counts when two logs are compared: its tags, and the id of the tag that ends it
-pub record Part : Type 0 where
-  pub entries : List Entry
-  pub id : ℕ
+-- what counts when two logs are compared: the tags, and of those that end a commit the id
+pub data Mark : Type 0 where
+  tag : Entry → Mark
+  end : ℕ → Mark
+
+abbrev pub marksOf : List Item → List Mark
+marksOf [] = []
+marksOf (held e ∷ xs) = tag e ∷ marksOf xs
+marksOf (ended e ∷ xs) = end (e .id) ∷ marksOf xs
 
 -- a log as it counts when two are compared; one without a finished commit is empty, whatever its revision
 pub record Log : Type 0 where
   pub revision : ℕ
-  pub parts : List Part
+  pub marks : List Mark
 
-abbrev pub partsOf : List Commit → List Part
-partsOf [] = []
-partsOf (c ∷ cs) = record { entries = c .entries; id = c .end .id } ∷ partsOf cs
-
-abbrev pub logFrom : ℕ → List Part → Log
-logFrom revision [] = record { revision = 0; parts = [] }
-logFrom revision (p ∷ ps) = record { revision = revision; parts = p ∷ ps }
+abbrev pub logFrom : ℕ → List Mark → Log
+logFrom revision [] = record { revision = 0; marks = [] }
+logFrom revision (m ∷ ms) = record { revision = revision; marks = m ∷ ms }
 
 unfoldable pub logOf : List ℕ → Log
-logOf b = logFrom (le32 b 0) (partsOf (sealedOf b))
+logOf b = logFrom (le32 b 0) (marksOf (finishedOf b))
 
--- the log x is a beginning of the log y: its first commits, or nothing
+-- the log x is a beginning of the log y: its first commits, or nothing. As a log ends with the end of a commit, so does x.
 abbrev pub Begins : Log → Log → Type 0
-Begins x y = (k : ℕ) × (x ≡ logFrom (y .revision) (take k (y .parts)))
+Begins x y = (k : ℕ) × (x ≡ logFrom (y .revision) (take k (y .marks)))
 
 abbrev pub following : List ℕ → (ℕ → ℕ → List ℕ) → Option What → Next → List ℕ
 following seen go (Some w) next = seen

@@ -5,10 +5,10 @@ use Prim.Native.Nat.{ℕ}
 use Rattle.std.specs.declared.result.Result.{Result}
 use Rattle.std.specs.declared.result.Result.the-variants.{Ok, Err}
 use Rattle.flash.specs.Card.{Card, bytes}
-use Rattle.metalog.specs.Log.{itemsOf}
+use Rattle.metalog.specs.Log.{Item, itemsOf}
 use Rattle.metalog.specs.Revision.{newer}
 use Rattle.metalog.specs.Tag.{le32}
-use Rattle.volume.specs.State.{State, start, Commit, sealedFrom, Folded, state, wrong, foldCommits}
+use Rattle.volume.specs.State.{State, start, finished, Folded, state, wrong, foldItems}
 use Rattle.volume.specs.declared.fault.Fault.{Fault}
 use Rattle.volume.specs.declared.fault.What.{What}
 use Rattle.volume.specs.declared.fault.What.the-variants.{NoCommit, NoNewer, Tag}
@@ -16,13 +16,13 @@ use Rattle.volume.specs.declared.fault.What.the-variants.{NoCommit, NoNewer, T
 abbrev pub fault : What → ℕ → ℕ → Fault
 fault what block byte = record { what = what; block = block; byte = byte }
 
--- the finished commits of a block, with their ends
-abbrev pub sealedOf : List ℕ → List Commit
-sealedOf b = sealedFrom [] (itemsOf b)
+-- what is read of the finished commits of a block
+abbrev pub finishedOf : List ℕ → List Item
+finishedOf b = finished (itemsOf b)
 
-abbrev pub isEmpty : List Commit → Bool
+abbrev pub isEmpty : List Item → Bool
 isEmpty [] = true
-isEmpty (c ∷ cs) = false
+isEmpty (x ∷ xs) = false
 
 -- which of two blocks a pair is read from: the one with a finished commit; of two, the one with the newer revision
 pub data Choice : Type 0 where
@@ -41,7 +41,7 @@ chosen false false false true = second
 chosen false false false false = no-newer
 
 abbrev pub choice : List ℕ → List ℕ → Choice
-choice p q = chosen (isEmpty (sealedOf p)) (isEmpty (sealedOf q)) (newer (le32 p 0) (le32 q 0)) (newer (le32 q 0) (le32 p 0))
+choice p q = chosen (isEmpty (finishedOf p)) (isEmpty (finishedOf q)) (newer (le32 p 0) (le32 q 0)) (newer (le32 q 0) (le32 p 0))
 
 -- a pair as it was read: its blocks as they were named, the block whose log counts, and its state
 pub record Pair : Type 0 where
@@ -56,7 +56,7 @@ judged a b block (wrong at) = Err (fault Tag block at)
 
 -- the pair whose state's block is `block`
 abbrev pub readAt : Card → ℕ → ℕ → ℕ → Result Pair Fault
-readAt c a b block = judged a b block (foldCommits start (sealedOf (bytes c block)))
+readAt c a b block = judged a b block (foldItems start (finishedOf (bytes c block)))
 
 abbrev pub readBy : Choice → Card → ℕ → ℕ → Result Pair Fault
 readBy first c a b = readAt c a b a

@@ -134,16 +134,16 @@ apply s e = applied s (effectOf (e .kind)) (e .id) (e .bytes)
 
 -- ---- all tags of the finished commits
 
--- a commit with its end
-pub record Commit : Type 0 where
-  pub entries : List Entry
-  pub end : End
+-- a tag in front of what is finished behind it: behind the last end nothing is
+abbrev pub inFront : Entry → List Item → List Item
+inFront e [] = []
+inFront e (x ∷ xs) = held e ∷ x ∷ xs
 
--- the finished commits of a log with their ends, of which the tags `begun` were read already
-abbrev pub sealedFrom : List Entry → List Item → List Commit
-sealedFrom begun [] = []
-sealedFrom begun (held e ∷ xs) = sealedFrom (begun ++ e ∷ []) xs
-sealedFrom begun (ended e ∷ xs) = record { entries = begun; end = e } ∷ sealedFrom [] xs
+-- what was read of the finished commits, through the last end
+abbrev pub finished : List Item → List Item
+finished [] = []
+finished (held e ∷ xs) = inFront e (finished xs)
+finished (ended e ∷ xs) = ended e ∷ finished xs
 
 -- a state, or the offset of the first tag that must not be there
 pub data Folded : Type 0 where
@@ -154,14 +154,11 @@ abbrev pub step : Option State → ℕ → (State → Folded) → Folded
 step None at f = wrong at
 step (Some s) at f = f s
 
--- the tags of a commit, and then its end, which must have the id of no entry
-abbrev pub foldTags : State → List Entry → End → (State → Folded) → Folded
-foldTags s [] end f = cond (eqb (end .id) noId) (f s) (wrong (end .tag))
-foldTags s (e ∷ es) end f = step (apply s e) (e .offset) (λ t. foldTags t es end f)
-
-unfoldable pub foldCommits : State → List Commit → Folded
-foldCommits s [] = state s
-foldCommits s (c ∷ cs) = foldTags s (c .entries) (c .end) (λ t. foldCommits t cs)
+-- what the tags make of a state, one after the other; the tag that ends a commit must have the id of no entry
+unfoldable pub foldItems : State → List Item → Folded
+foldItems s [] = state s
+foldItems s (held e ∷ xs) = step (apply s e) (e .offset) (λ t. foldItems t xs)
+foldItems s (ended e ∷ xs) = cond (eqb (e .id) noId) (foldItems s xs) (wrong (e .tag))
 
 -- ---- how much an entry takes
 
