@@ -15,7 +15,11 @@ pub const OTHER: [u8; 16] = *b".. and sixteen !";
 pub const TORN: [u8; 16] = *b"sixteen \xff\xff\xff\xff\xff\xff\xff\xff";
 
 // The 16 bytes at an offset of a block.
-pub(crate) fn unit_at<D: ReadableDevice>(device: &D, block: u32, at: u32) -> Result<[u8; 16], Refusal> {
+pub(crate) fn unit_at<D: ReadableDevice>(
+    device: &D,
+    block: u32,
+    at: u32,
+) -> Result<[u8; 16], Refusal> {
     let mut unit = [0; 16];
     device.read(block, at, &mut unit)?;
     Ok(unit)
