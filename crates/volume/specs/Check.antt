@@ -182,6 +182,20 @@ pub record Reading : Type 0 where
   -- the blocks of the list and of the tree's files
   pub used : List ℕ
 
+-- the blocks of directories
+abbrev pub dirBlocks : List Dir → List ℕ
+dirBlocks [] = []
+dirBlocks (d ∷ ds) = d .blocks ++ dirBlocks ds
+
+-- those of some numbers that are not among others
+abbrev pub without : List ℕ → List ℕ → List ℕ
+without ys [] = []
+without ys (x ∷ xs) = cond (member x ys) (without ys xs) (x ∷ without ys xs)
+
+-- the blocks of the tree: of its directories and of its files, so all used ones but those of orphans
+abbrev pub treeBlocks : Reading → List ℕ
+treeBlocks r = without (dirBlocks (r .orphans)) (r .used)
+
 abbrev pub settle : List Pair → Bool → Hiding → List Dir → Scan Entries → Result Reading Fault
 settle ps sync h orphans (Err e) = Err e
 settle ps sync h orphans (Ok x) = Ok (record { tree = directory (x .0); pairs = ps; sync = sync; hiding = h; orphans = orphans; used = x .1 .seen })
