@@ -74,10 +74,12 @@ in-front a b older bs ne na nb p k =
     let out-a : member a bs ≡ false = not-member a bs (λ h. both-ways (member a (a ∷ b ∷ older)) (k a h) (head-member a (b ∷ older))) in
     let out-b : member b bs ≡ false = not-member b bs (λ h. both-ways (member b (a ∷ b ∷ older)) (k b h) (tail-member b a (b ∷ older) (head-member b older))) in
     let clear : Clear (a ∷ b ∷ bs) older = λ x h. elim (or-cases (eqb x a) (eqb x b || member x bs) h) [
-        inl e ↦ subst (λ y. member y older ≡ false) (sym (eqb-true x a e)) na
+      | inl e ↦ subst (λ y. member y older ≡ false) (sym (eqb-true x a e)) na
       | inr h1 ↦ elim (or-cases (eqb x b) (member x bs) h1) [
-          inl e ↦ subst (λ y. member y older ≡ false) (sym (eqb-true x b e)) nb
-        | inr e ↦ or-parts (eqb x b) (member x older) (or-parts (eqb x a) (eqb x b || member x older) (k x e) .1) .1 ] ] in
+        | inl e ↦ subst (λ y. member y older ≡ false) (sym (eqb-true x b e)) nb
+        | inr e ↦ or-parts (eqb x b) (member x older) (or-parts (eqb x a) (eqb x b || member x older) (k x e) .1) .1
+      ]
+    ] in
     ((or-from (eqb a b) (member a bs) ne out-a, (out-b, p)), clear)
 
 -- what comes behind a pair is apart, and none of it came before
@@ -124,14 +126,15 @@ chain-apart (suc n) c seen h e =
     let xs = chain n c next in
     let both = checked-none c seen h (chainFault n c (h ∷ seen) next) e in
     let rest = chain-apart n c (h ∷ seen) next (both .1) in
-    let last : Clear xs (h ∷ []) = λ x k. or-from (eqb x h) false (or-parts (eqb x h) (member x seen) (rest .1 x k) .0) refl in
-    (
+    let last : Clear xs (h ∷ []) = λ x k. or-from (eqb x h) false (or-parts (eqb x h) (member x seen) (rest .1 x k) .0) refl in (
       apart-append xs (h ∷ []) (rest .0) (refl, tt) last,
       λ x k. elim (cases-bool (member x xs)) [
-          inl q ↦ or-parts (eqb x h) (member x seen) (rest .1 x q) .1
+        | inl q ↦ or-parts (eqb x h) (member x seen) (rest .1 x q) .1
         | inr q ↦ elim (cases-bool (eqb x h)) [
-            inl w ↦ subst (λ y. member y seen ≡ false) (sym (eqb-true x h w)) (both .0)
-          | inr w ↦ absurd (both-ways (member x (xs ++ h ∷ [])) (member-append x xs (h ∷ []) q (or-from (eqb x h) false w refl)) k) ] ],
+          | inl w ↦ subst (λ y. member y seen ≡ false) (sym (eqb-true x h w)) (both .0)
+          | inr w ↦ absurd (both-ways (member x (xs ++ h ∷ [])) (member-append x xs (h ∷ []) q (or-from (eqb x h) false w refl)) k)
+        ]
+      ],
     )
 
 pub file-apart : (c : Card) (seen : List ℕ) (h size : ℕ) → fileFault c seen h size ≡ None → Apart (fileBlocks c h size) × Clear (fileBlocks c h size) seen

@@ -5,4 +5,5 @@ pub mod ScanFrames
 pub mod Frames
 pub mod Computed
 pub mod Aparts
+pub mod Orders
 pub mod ServesOnce

@@ -58,7 +58,10 @@ pub record Examples : Type 0 where
       ≡ Ok (record {
         tree = directory (entry (118 ∷ 101 ∷ 103 ∷ 97 ∷ []) (tree.file (50 ∷ 46 ∷ 53 ∷ [])) none);
         pairs = record { a = 0; b = 1; block = 0; state = record { entries = rootSlot ∷ fileSlot (118 ∷ 101 ∷ 103 ∷ 97 ∷ []) (50 ∷ 46 ∷ 53 ∷ []) ∷ []; tail = None; moves = None } } ∷ [];
-        sync = false; hiding = shows; orphans = []; used = 0 ∷ 1 ∷ [];
+        sync = false;
+        hiding = shows;
+        orphans = [];
+        used = 0 ∷ 1 ∷ [];
       })
   -- an erased card has no root
   pub erased : check (card (replicate 8 (block []))) ≡ Err (fault NoCommit 0 0)

@@ -1,9 +1,9 @@
 -- A tree of directories and files by name: what both firms must find on a card. It knows nothing of cards.
-use mathlib.Core.Bool.{Bool, true, false, cond, not, _&&_}
+use mathlib.Core.Bool.{Bool, true, false, cond, not, _&&_, _||_}
 use mathlib.Core.List.{List, [], _∷_, _++_}
 use Prim.Native.Nat.{ℕ, zero, suc, compare, Ordering, Ordering·lt, Ordering·eq, Ordering·gt}
 use lib.Dec.{eqb, leb}
-use lib.ListN.{length}
+use lib.ListN.{length, getD}
 use Rattle.std.specs.declared.option.Option.{Option}
 use Rattle.std.specs.declared.option.Option.the-variants.{Some, None}
 
@@ -34,9 +34,13 @@ abbrev pub plain : Name → Bool
 plain [] = true
 plain (x ∷ xs) = not (eqb x 0) && (not (eqb x 47) && plain xs)
 
+-- whether bytes are "." or ".."
+abbrev pub dots : Name → Bool
+dots n = (eqb (length n) 1 && eqb (getD n 0 0) 46) || (eqb (length n) 2 && (eqb (getD n 0 0) 46 && eqb (getD n 1 0) 46))
+
 -- whether bytes are a name: 1 to 64 of them, none 0 or "/", and neither "." nor ".."
 unfoldable pub isName : Name → Bool
-isName n = leb 1 (length n) && (leb (length n) 64 && (plain n && (not (named n (46 ∷ [])) && not (named n (46 ∷ 46 ∷ [])))))
+isName n = leb 1 (length n) && (leb (length n) 64 && (plain n && not (dots n)))
 
 -- A tree: a file is its bytes, a directory its entries, whose names ascend.
 mutual
