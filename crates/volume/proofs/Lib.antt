@@ -6,3 +6,5 @@ pub mod Frames
 pub mod Computed
 pub mod Aparts
 pub mod ServesOnce
+pub mod Orders
+pub mod OnePath
