@@ -5,5 +5,7 @@ pub mod ScanFrames
 pub mod Frames
 pub mod Computed
 pub mod Aparts
-pub mod Orders
 pub mod ServesOnce
+pub mod Orders
+pub mod Tails
+pub mod OnePath

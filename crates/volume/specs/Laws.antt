@@ -8,6 +8,7 @@ use Rattle.std.specs.declared.result.Result.the-variants.{Ok}
 use Rattle.flash.specs.Card.{Card, bytes}
 use Rattle.volume.specs.Thread.{member}
 use Rattle.volume.specs.Check.{check, Reading}
+use Rattle.volume.specs.Ways.{Reached}
 use Rattle.volume.specs.Examples.{Examples}
 
 -- two cards of one shape, with the same good blocks, that hold the same in some blocks
@@ -31,8 +32,13 @@ Apart (x ∷ xs) = (member x xs ≡ false) × Apart xs
 abbrev pub ServesOnce : Type 0
 ServesOnce = (c : Card) (r : Reading) → check c ≡ Ok r → Apart (r .used)
 
+-- Each directory is reached by one path: no two paths lead to one directory, and only the orphans are reached by none.
+abbrev pub OnePath : Type 0
+OnePath = (c : Card) (r : Reading) → check c ≡ Ok r → Reached r
+
 -- All laws of what a card holds.
 pub record CardLaws : Type 0 where
   pub frame : Frame
   pub serves-once : ServesOnce
+  pub one-path : OnePath
   pub examples : Examples

@@ -8,6 +8,7 @@ pub mod Global
 pub mod Files
 pub mod Tree
 pub mod Check
+pub mod Ways
 pub mod Examples
 pub mod Paths
 pub mod Clean

@@ -5,8 +5,8 @@ ghost use Rattle.volume.specs.Laws.{CardLaws};
 
 // The answer is how many laws there are.
 pub fn laws_hold() -> u8
-    ensures laws { λ r. ⌜ r ≡ 3 ⌝ }
+    ensures laws { λ r. ⌜ r ≡ 4 ⌝ }
     ensures law { λ _. ⌜ CardLaws ⌝ }
 {
-    3
+    4
 }

@@ -6,7 +6,7 @@ use lib.Dec.{ltb}
 use lib.ListN.{length, getD, drop}
 use Rattle.std.proofs.shelf.Tests.{cases-lt, lt-ltb, le-ltb}
 use Rattle.volume.specs.Tree.{before}
-use Rattle.volume.proofs.Orders.{before-same, before-less, before-more, before-end, before-first}
+use Rattle.volume.proofs.Tails.{before-same, before-less, before-more, before-end, before-first}
 use Rattle.volume.proofs.names.precedes.Needs as need
 
 pub returns-then-a-i : need.returns-then-a-i
