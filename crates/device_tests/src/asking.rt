@@ -26,7 +26,7 @@ pub(crate) fn unit_at<D: ReadableDevice>(
 }
 
 // That a block of four units is these.
-pub fn block_is<D: ReadableDevice>(
+pub(crate) fn block_is<D: ReadableDevice>(
     device: &D,
     block: u32,
     units: [[u8; 16]; 4],
