@@ -10,7 +10,7 @@ use super::WritableDevice;
 // The answer is how many joins there are.
 pub fn joins_hold<D: WritableDevice>(before: &D, between: &D, after: &D) -> u8
     ensures joins { result ≡ 5 }
-    ensures law { Joins (history before.now) (history between.now) (history after.now) }
+    ensures law { Joins (D.history before.now) (D.history between.now) (D.history after.now) }
 {
     5
 }
@@ -19,7 +19,7 @@ pub fn joins_hold<D: WritableDevice>(before: &D, between: &D, after: &D) -> u8
 // behind it what was there; nothing else changed. The answer is in how many units at most the two may be mixed.
 pub fn cuts_hold<D: WritableDevice>(before: &D, after: &D) -> u8
     ensures units { result ≡ 1 }
-    ensures law { Leaves (history before.now) (history after.now) }
+    ensures law { Leaves (D.history before.now) (D.history after.now) }
 {
     1
 }

@@ -18,9 +18,9 @@ pub fn program_units<D: WritableDevice>(
     at: u32,
     content: &[u8],
 ) -> Result<(), Refusal>
-    ensures asked { Tried at (length content.now) (programs block at content.now) (D.ReadableDevice.meaning device.old) result (D.ReadableDevice.meaning device.new) (history device.old) (history device.new) }
+    ensures asked { Tried at (length content.now) (programs block at content.now) (D.ReadableDevice.meaning device.old) result (D.ReadableDevice.meaning device.new) (D.history device.old) (D.history device.new) }
     ensures holds { Pasted (D.ReadableDevice.meaning device.old) block at content.now result (D.ReadableDevice.meaning device.new) }
-    ensures free { TakesFree (D.ReadableDevice.meaning device.old) block at content.now result (D.ReadableDevice.meaning device.new) (history device.old) (history device.new) }
+    ensures free { TakesFree (D.ReadableDevice.meaning device.old) block at content.now result (D.ReadableDevice.meaning device.new) (D.history device.old) (D.history device.new) }
 {
     if let Some(refusal) = reason_unfit(device, at, content.len()) {
         return Err(refusal);
@@ -36,8 +36,8 @@ pub fn write_block<D: WritableDevice>(
     block: u32,
     content: &[u8],
 ) -> Result<(), Refusal>
-    ensures asked { Tried 0 (length content.now) (rewrites block content.now) (D.ReadableDevice.meaning device.old) result (D.ReadableDevice.meaning device.new) (history device.old) (history device.new) }
-    ensures wrote { WroteBlock (D.ReadableDevice.meaning device.old) block content.now result (D.ReadableDevice.meaning device.new) (history device.old) (history device.new) }
+    ensures asked { Tried 0 (length content.now) (rewrites block content.now) (D.ReadableDevice.meaning device.old) result (D.ReadableDevice.meaning device.new) (D.history device.old) (D.history device.new) }
+    ensures wrote { WroteBlock (D.ReadableDevice.meaning device.old) block content.now result (D.ReadableDevice.meaning device.new) (D.history device.old) (D.history device.new) }
 {
     if let Some(refusal) = reason_unfit(device, 0, content.len()) {
         return Err(refusal);
@@ -49,7 +49,7 @@ pub fn write_block<D: WritableDevice>(
 // Why writing so many bytes behind an offset is refused before any write is asked: the card is dark, or they are no whole
 // number of units that fit into a block.
 fn reason_unfit<D: ReadableDevice>(device: &D, at: u32, count: usize) -> Option<Refusal>
-    ensures reason { result ≡ unfit (meaning device.now) at count }
+    ensures reason { result ≡ unfit (D.meaning device.now) at count }
     ensures below { result ≡ None → at + count < 2 ^ 32 }
 {
     if device.is_dark() {
@@ -71,7 +71,7 @@ fn program_each<D: WritableDevice>(
 ) -> Result<(), Refusal>
     requires content_len { length content.now % 16 ≡ 0 }
     requires content_bound { at + length content.now < 2 ^ 32 }
-    ensures { Runs (programs block at content.now) (D.ReadableDevice.meaning device.old) result (D.ReadableDevice.meaning device.new) (history device.old) (history device.new) }
+    ensures { Runs (programs block at content.now) (D.ReadableDevice.meaning device.old) result (D.ReadableDevice.meaning device.new) (D.history device.old) (D.history device.new) }
 {
     let mut done = 0;
     while done < content.len() {

@@ -13,18 +13,18 @@ returns-in-Some g c =
       free = λ l h. elim (unfit_settled _ _ _ (free_fits _ c.args.block _ _ l h) u) [ ];
     }
 
-pub program-each-requires : goal.program-each-requires
-program-each-requires g c =
-    let u = fits_from _ c.args.at _ (sym c.in-default.ensures.reason) in (u.1, c.in-default.ensures.below refl)
+pub program_each-requires : goal.program_each-requires
+program_each-requires g c =
+    let u = fits_from _ c.args.at _ (sym c.in_default.ensures.reason) in record { content_len = u.1; content_bound = c.in_default.ensures.below refl }
 
 pub returns : goal.returns
 returns g c =
-    let none = sym c.in-default.ensures.reason in
+    let none = sym c.in_default.ensures.reason in
     let u = fits_from _ c.args.at _ none in
     let shaped = g.met.D.ReadableDevice.shaped c.args.device.now in
-    let ran = c.program-each.ensures in
+    let ran = c.program_each.ensures in
     record {
-      asked = tried_from_runs c.args.at _ _ _ c.program-each.result _ _ _ none ran;
-      holds = pasted_from_runs _ _ c.args.at _ c.program-each.result _ _ _ shaped u.1 ran;
-      free = takes_free _ _ c.args.at _ c.program-each.result _ _ _ shaped ran;
+      asked = tried_from_runs c.args.at _ _ _ c.program_each.result _ _ _ none ran;
+      holds = pasted_from_runs _ _ c.args.at _ c.program_each.result _ _ _ shaped u.1 ran;
+      free = takes_free _ _ c.args.at _ c.program_each.result _ _ _ shaped ran;
     }

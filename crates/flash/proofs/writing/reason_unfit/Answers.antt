@@ -4,9 +4,9 @@ use Rattle.std.proofs.lemmas.Bool.Decides.{nat_tests}
 use Rattle.flash.specs.Runs.{unfit}
 use Rattle.flash.proofs.writing.reason_unfit.Goals as goal
 
-pub returns-then-is-dark : goal.returns-then-is-dark
+pub returns-then-is_dark : goal.returns-then-is_dark
 unfolding unfit
-returns-then-is-dark g c = record { reason = grind (arith, nat_tests); below = λ h. grind arith }
+returns-then-is_dark g c = record { reason = grind (arith, nat_tests); below = λ h. grind arith }
 
 pub returns-then-count-ne0 : goal.returns-then-count-ne0
 unfolding unfit

@@ -10,18 +10,18 @@ returns-in-Some g c =
     let o = outcome_unfit _ c.args.block c.args.content.now _ (g.D.WritableDevice.history c.args.device.now) (sym c.in-Some.ensures.reason) in
     record { asked = o.asked; wrote = o.wrote }
 
-pub program-each-requires : goal.program-each-requires
-program-each-requires g c =
-    let u = fits_from _ 0 _ (sym c.in-default.ensures.reason) in (u.1, c.in-default.ensures.below refl)
+pub program_each-requires : goal.program_each-requires
+program_each-requires g c =
+    let u = fits_from _ 0 _ (sym c.in_default.ensures.reason) in record { content_len = u.1; content_bound = c.in_default.ensures.below refl }
 
-pub returns-in-err-erase : goal.returns-in-err-erase
-returns-in-err-erase g c =
-    let p = err_from_is_err_and c.from-residual.result c.from-residual.ensures.1 in
-    let o = outcome_not_erased _ c.args.block c.args.content.now _ _ _ _ (sym c.in-default.ensures.reason) c.in-err-erase.ensures in
+pub returns-in_err-erase : goal.returns-in_err-erase
+returns-in_err-erase g c =
+    let p = err_from_is_err_and c.from_residual.result c.from_residual.ensures.1 in
+    let o = outcome_not_erased _ c.args.block c.args.content.now _ _ _ _ (sym c.in_default.ensures.reason) c.in_err-erase.ensures in
     rw (p.1, p.2) (record { asked = o.asked; wrote = o.wrote })
 
 pub returns : goal.returns
 returns g c =
     let shaped = g.met.D.ReadableDevice.shaped c.erase.new.self in
-    let o = outcome_units _ c.args.block c.args.content.now _ c.program-each.result _ _ _ _ shaped (sym c.in-default.ensures.reason) c.in-ok-erase.ensures c.program-each.ensures in
+    let o = outcome_units _ c.args.block c.args.content.now _ c.program_each.result _ _ _ _ shaped (sym c.in_default.ensures.reason) c.in_ok-erase.ensures c.program_each.ensures in
     record { asked = o.asked; wrote = o.wrote }

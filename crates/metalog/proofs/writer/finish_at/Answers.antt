@@ -11,8 +11,8 @@ use Rattle.metalog.proofs.Puts.{moved}
 use Rattle.metalog.proofs.Writes.{pad_is, end_refused, end_accepted, end_put}
 use Rattle.metalog.proofs.writer.finish_at.Goals as goal
 
-pub returns-then-not-has-room : goal.returns-then-not-has-room
-returns-then-not-has-room c = (end_refused c.args.used _ _ (pad_is c.args.used) (sym c.if-not-has-room.ensures), refl)
+pub returns-then-not-has_room : goal.returns-then-not-has_room
+returns-then-not-has_room c = (end_refused c.args.used _ _ (pad_is c.args.used) (sym c.if-not-has_room.ensures), refl)
 
 pub returns : goal.returns
 returns c =
@@ -20,14 +20,14 @@ returns c =
     let i = c.args.used in
     let pad = (16 - (i % 16 + 8) % 16) % 16 in
     let same : pad ≡ pad_of i = pad_is i in
-    let room : i + (8 + pad) ≤ length b = leb-true (i + (8 + pad)) (length b) (sym c.if-not-has-room.ensures) in
+    let room : i + (8 + pad) ≤ length b = leb-true (i + (8 + pad)) (length b) (sym c.if-not-has_room.ensures) in
     let tag : 0x500ffc04 + pad ≡ ending (pad_of i) = omega (arith, same) in
     let none : i + 4 - 0 ≡ i + 4 = omega arith in
     let all : pad - 0 ≡ pad_of i = omega (arith, same) in (
-      end_accepted i (length b) pad same (sym c.if-not-has-room.ensures),
-      end_put b c.put-bytes.new.buffer c.put-bytes-2.new.buffer c.put-bytes-3.new.buffer i c.args.prior (length-take-le i b (omega (arith, room)))
-          (moved refl (c.to-be-bytes.ensures ∙ ap (λ t. be4 (bit_xor t c.args.prior)) tag) c.put-bytes.ensures)
-          (moved refl (c.to-le-bytes.ensures ∙ ap le4 (c.crc-sum.ensures ∙ ap (λ n. crc_of seed (take n c.put-bytes.new.buffer)) none)) c.put-bytes-2.ensures)
-          (moved refl (ap (λ n. take n (replicate 16 0xff)) all ∙ take-replicate (pad_of i) 16 0xff (omega arith)) c.put-bytes-3.ensures),
+      end_accepted i (length b) pad same (sym c.if-not-has_room.ensures),
+      end_put b c.put_bytes.new.buffer c.put_bytes-2.new.buffer c.put_bytes-3.new.buffer i c.args.prior (length-take-le i b (omega (arith, room)))
+          (moved refl (c.to_be_bytes.ensures ∙ ap (λ t. be4 (bit_xor t c.args.prior)) tag) c.put_bytes.ensures)
+          (moved refl (c.to_le_bytes.ensures ∙ ap le4 (c.crc-sum.ensures ∙ ap (λ n. crc_of seed (take n c.put_bytes.new.buffer)) none)) c.put_bytes-2.ensures)
+          (moved refl (ap (λ n. take n (replicate 16 0xff)) all ∙ take-replicate (pad_of i) 16 0xff (omega arith)) c.put_bytes-3.ensures),
       ap (λ p. i + (8 + p)) same,
     )

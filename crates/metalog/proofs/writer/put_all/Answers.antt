@@ -11,13 +11,13 @@ loop-part-init c = (refl, put_none _ _ _ _)
 
 pub loop-part-preserved : goal.loop-part-preserved
 loop-part-preserved c =
-    let told = c.in-ok-put.ensures in
+    let told = c.in_ok-put.ensures in
     (told.lender ∙ c.loop-part.invariant.0, part_more _ _ _ c.args.parts.now c.loop-part.part-index _ _ _ c.loop-part.invariant.1 _ (omega arith) (tt {0}) _ _ _ told.writes)
 
-pub returns-in-err-put : goal.returns-in-err-put
-returns-in-err-put c =
-    let told = c.in-err-put.ensures in
-    let p = err_from_is_err_and c.from-residual.result c.from-residual.ensures.1 in
+pub returns-in_err-put : goal.returns-in_err-put
+returns-in_err-put c =
+    let told = c.in_err-put.ensures in
+    let p = err_from_is_err_and c.from_residual.result c.from_residual.ensures.1 in
     rw (p.1, p.2) (record { lender = told.lender ∙ c.loop-part.invariant.0; puts = part_stuck _ _ _ c.args.parts.now c.loop-part.part-index _ _ _ c.loop-part.invariant.1 _ (omega arith) _ _ _ _ told.writes })
 
 pub returns : goal.returns

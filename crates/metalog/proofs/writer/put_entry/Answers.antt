@@ -4,4 +4,4 @@ use Rattle.metalog.proofs.Puts.{then, moved}
 use Rattle.metalog.proofs.writer.put_entry.Goals as goal
 
 pub returns : goal.returns
-returns c = then (moved refl c.to-be-bytes.ensures c.put-bytes.ensures) c.put-bytes-2.ensures
+returns c = then (moved refl c.to_be_bytes.ensures c.put_bytes.ensures) c.put_bytes-2.ensures

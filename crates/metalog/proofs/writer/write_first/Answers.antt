@@ -7,5 +7,5 @@ use Rattle.metalog.proofs.writer.write_first.Goals as goal
 pub returns : goal.returns
 returns c =
     let told = c.first-writer.ensures in
-    let all = concluded _ _ _ (map piece_of c.args.parts.now) c.put-all-put.result _ _ _ c.conclude.result _ c.put-all-put.ensures.puts c.conclude.ensures in
+    let all = concluded _ _ _ (map piece_of c.args.parts.now) c.put_all-put.result _ _ _ c.conclude.result _ c.put_all-put.ensures.puts c.conclude.ensures in
     first_concluded _ _ _ _ _ _ told.buffer (finally _ _ _ _ _ _ _ (begun_as _ _ _ _ _ _ _ _ _ all refl told.state.0 told.state.1) (search rules))

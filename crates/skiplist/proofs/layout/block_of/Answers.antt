@@ -4,13 +4,13 @@ use Rattle.std.proofs.Common.{arith}
 use Rattle.skiplist.proofs.Places.{guess_ones_le, guess_words_le}
 use Rattle.skiplist.proofs.layout.block_of.Goals as goal
 
-pub overflow-add-result : goal.overflow-add-result
-overflow-add-result c =
+pub overflow_add-result : goal.overflow_add-result
+overflow_add-result c =
     omega (arith, guess_ones_le c.content-content.result c.args.place c.content-content.ensures.least (omega arith) c.if-guess-eq0.false)
 
-pub overflow-mul-result : goal.overflow-mul-result
-overflow-mul-result c =
+pub overflow_mul-result : goal.overflow_mul-result
+overflow_mul-result c =
     omega (arith, guess_ones_le c.content-content.result c.args.place c.content-content.ensures.least (omega arith) c.if-guess-eq0.false)
 
-pub overflow-sub-result-2 : goal.overflow-sub-result-2
-overflow-sub-result-2 c = guess_words_le c.content-content.result c.args.place c.content-content.ensures.least (omega arith) c.if-guess-eq0.false
+pub overflow_sub-result-2 : goal.overflow_sub-result-2
+overflow_sub-result-2 c = guess_words_le c.content-content.result c.args.place c.content-content.ensures.least (omega arith) c.if-guess-eq0.false

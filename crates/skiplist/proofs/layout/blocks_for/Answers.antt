@@ -7,6 +7,6 @@ use Rattle.skiplist.proofs.layout.blocks_for.Goals as goal
 
 pub returns : goal.returns
 returns c =
-    let last = c.in-ok-last.ensures in
-    needed_up_to (bytes_of c.args.size) c.args.bytes c.in-ok-last.last.block c.in-ok-last.last.byte
+    let last = c.in_ok-last.ensures in
+    needed_up_to (bytes_of c.args.size) c.args.bytes c.in_ok-last.last.block c.in_ok-last.last.byte
     c.if-bytes-eq0.false (omega arith) last.stands

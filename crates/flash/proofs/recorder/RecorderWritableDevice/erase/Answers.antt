@@ -4,4 +4,4 @@ use Rattle.flash.proofs.Counting.{answers_recorded}
 use Rattle.flash.proofs.recorder.RecorderWritableDevice.erase.Goals as goal
 
 pub returns : goal.returns
-returns g c = simp c.tally.ensures (answers_recorded _ _ c.erase-answer.result _ _ _ _ _ _ c.not-refused-asked.result (search rules) c.erase-answer.ensures)
+returns g c = simp c.tally.ensures (answers_recorded _ _ c.erase-answer.result _ _ _ _ _ _ c.not_refused-asked.result (search rules) c.erase-answer.ensures)

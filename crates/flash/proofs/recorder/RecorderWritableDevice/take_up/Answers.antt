@@ -3,4 +3,4 @@ use Rattle.flash.proofs.Counting.{recorded_more}
 use Rattle.flash.proofs.recorder.RecorderWritableDevice.take_up.Goals as goal
 
 pub returns : goal.returns
-returns g c = (c.take-up.ensures.0, simp c.tally.ensures (recorded_more _ _ _ c.take-up.ensures.1))
+returns g c = (c.take_up.ensures.0, simp c.tally.ensures (recorded_more _ _ _ c.take_up.ensures.1))

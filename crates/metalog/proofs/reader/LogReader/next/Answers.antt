@@ -3,9 +3,9 @@ use Rattle.std.proofs.Common.{rules}
 use Rattle.metalog.specs.Log.{step, step_with}
 use Rattle.metalog.proofs.reader.LogReader.next.Goals as goal
 
-pub returns-in-default : goal.returns-in-default
+pub returns-in_default : goal.returns-in_default
 unfolding step step_with
-returns-in-default c = search rules
+returns-in_default c = search rules
 
 pub returns-in-Stopped-default : goal.returns-in-Stopped-default
 unfolding step step_with

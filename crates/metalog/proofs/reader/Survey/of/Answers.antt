@@ -12,7 +12,7 @@ returns-then-block-ge4 c =
     let told = c.count-commits.ensures in
     let some : 0 < length cs = omega (arith, told.commits, c.if-commits-gt0.true) in
     record {
-      revision = c.little-endian-revision.ensures ∙ sym (ap (λ (l : Log). l.revision) (log_some (le32 b 0) cs some));
+      revision = c.little_endian-revision.ensures ∙ sym (ap (λ (l : Log). l.revision) (log_some (le32 b 0) cs some));
       commits = told.commits ∙ sym (ap length (log_commits (le32 b 0) cs));
       end = told.end;
     }
