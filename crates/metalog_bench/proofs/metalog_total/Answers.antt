@@ -34,5 +34,5 @@ loop-item-preserved c =
 
 pub returns : goal.returns
 returns c =
-    let none = subst (λ b. None ≡ (step b (cursor_of c.loop-item.reader)).item) c.loop-item.invariant.0 c.in-default.ensures.item in
+    let none = subst (λ b. None ≡ (step b (cursor_of c.loop-item.reader)).item) c.loop-item.invariant.0 c.in_default.ensures.item in
     at_end _ _ (cursor_of c.loop-item.reader) _ 0 _ c.loop-item.invariant.1 none

@@ -3,4 +3,4 @@ use Rattle.std.proofs.Common.{refl}
 use Rattle.cardtool.proofs.maker.superblock.Goals as goal
 
 pub returns : goal.returns
-returns c = rw (c.to-le-bytes.ensures, c.to-le-bytes-2.ensures) refl
+returns c = rw (c.to_le_bytes.ensures, c.to_le_bytes-2.ensures) refl

@@ -5,7 +5,7 @@ use Rattle.files.proofs.card.card_size.Goals as goal
 
 pub returns-in-Some : goal.returns-in-Some
 returns-in-Some g c =
-    told_size _ c.in-Some.size _ _ (sym c.is-dark.ensures ∙ c.if-is-dark.false) c.block-count-count.ensures c.block-size.ensures (omega arith) (omega arith) c.in-Some.ensures
+    told_size _ c.in-Some.size _ _ (sym c.is_dark.ensures ∙ c.if-is_dark.false) c.block_count-count.ensures c.block_size.ensures (omega arith) (omega arith) c.in-Some.ensures
 
 pub returns-in-None : goal.returns-in-None
-returns-in-None g c = told_none (g.D.ReadableDevice.meaning c.args.device.now) _ (sym c.is-dark.ensures ∙ c.if-is-dark.false) c.block-size.ensures c.in-None.ensures
+returns-in-None g c = told_none (g.D.ReadableDevice.meaning c.args.device.now) _ (sym c.is_dark.ensures ∙ c.if-is_dark.false) c.block_size.ensures c.in-None.ensures

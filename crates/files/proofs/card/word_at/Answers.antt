@@ -6,4 +6,4 @@ use Rattle.files.proofs.card.word_at.Goals as goal
 
 pub returns : goal.returns
 returns g c =
-    c.word-of.ensures ∙ word_of_read (bytes (g.D.ReadableDevice.meaning c.args.device.now) c.args.block) _ c.args.at c.in-ok-read-part.ensures
+    c.word_of.ensures ∙ word_of_read (bytes (g.D.ReadableDevice.meaning c.args.device.now) c.args.block) _ c.args.at c.in_ok-read_part.ensures

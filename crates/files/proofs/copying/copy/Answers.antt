@@ -4,18 +4,18 @@ use Rattle.skiplist.specs.Sizes.{bytes_of}
 use Rattle.files.proofs.Copies.{from_block, copied_more, never_refused, copied_all, no_answer, same_answer}
 use Rattle.files.proofs.copying.copy.Goals as goal
 
-pub returns-in-err-block : goal.returns-in-err-block
-returns-in-err-block g c =
+pub returns-in_err-block : goal.returns-in_err-block
+returns-in_err-block g c =
     let card = g.D.ReadableDevice.meaning c.args.device.now in
     let shaped = g.met.D.ReadableDevice.shaped c.args.device.now in
     let at = c.in-Some.ensures in
     let inside = at.inside in
     λ bs f fits.
     let here = from_block card bs c.args.head c.args.last (bytes_of c.args.size) (c.args.place + c.loop-done.done) 0 c.in-Some.location.block c.in-Some.location.byte shaped c.requires.0 c.requires.1 f at.stands (omega arith) (omega arith) in
-    absurd (no_answer _ _ (c.in-err-block.ensures bs f here.before))
+    absurd (no_answer _ _ (c.in_err-block.ensures bs f here.before))
 
-pub returns-in-err-read-part : goal.returns-in-err-read-part
-returns-in-err-read-part g c =
+pub returns-in_err-read_part : goal.returns-in_err-read_part
+returns-in_err-read_part g c =
     let card = g.D.ReadableDevice.meaning c.args.device.now in
     let shaped = g.met.D.ReadableDevice.shaped c.args.device.now in
     let at = c.in-Some.ensures in
@@ -26,8 +26,8 @@ returns-in-err-read-part g c =
     let room : e ≤ length c.loop-done.out = omega arith in
     λ bs f fits.
     let here = from_block card bs c.args.head c.args.last (bytes_of c.args.size) (c.args.place + n) (e - n) i c.in-Some.location.byte shaped c.requires.0 c.requires.1 f at.stands (omega arith) (omega arith) in
-    let is = same_answer _ _ (c.in-ok-block.ensures bs f here.before) in
-    absurd (never_refused card bs c.args.last (c.args.place + n) i c.in-Some.location.byte c.in-ok-block.block n e c.loop-done.out room here is c.in-err-read-part.ensures.0)
+    let is = same_answer _ _ (c.in_ok-block.ensures bs f here.before) in
+    absurd (never_refused card bs c.args.last (c.args.place + n) i c.in-Some.location.byte c.in_ok-block.block n e c.loop-done.out room here is c.in_err-read_part.ensures.0)
 
 pub loop-done-preserved : goal.loop-done-preserved
 loop-done-preserved g c =
@@ -42,8 +42,8 @@ loop-done-preserved g c =
       omega arith,
       λ bs f fits.
           let here = from_block card bs c.args.head c.args.last (bytes_of c.args.size) (c.args.place + n) (e - n) i c.in-Some.location.byte shaped c.requires.0 c.requires.1 f at.stands (omega arith) (omega arith) in
-          let is = same_answer _ _ (c.in-ok-block.ensures bs f here.before) in
-          copied_more card bs c.args.last c.args.place i c.in-Some.location.byte c.in-ok-block.block n e c.loop-done.out c.read-part.new.out (omega arith) room here is c.in-ok-read-part.ensures (c.loop-done.invariant.1 bs f fits),
+          let is = same_answer _ _ (c.in_ok-block.ensures bs f here.before) in
+          copied_more card bs c.args.last c.args.place i c.in-Some.location.byte c.in_ok-block.block n e c.loop-done.out c.read_part.new.out (omega arith) room here is c.in_ok-read_part.ensures (c.loop-done.invariant.1 bs f fits),
     )
 
 pub returns : goal.returns

@@ -8,29 +8,29 @@ use Rattle.files.proofs.marking.mark_chain.Goals as goal
 pub loop-blocks-init : goal.loop-blocks-init
 loop-blocks-init g c = (omega arith, λ seen m. onward_none _ c.args.last c.args.head seen _ c.args.blocks.now m)
 
-pub returns-in-err-mark : goal.returns-in-err-mark
-returns-in-err-mark g c =
-    let p = err_from_is_err_and c.from-residual.result c.from-residual.ensures.1 in
-    rw (p.1, p.2) (λ seen m. onward_stops _ c.args.last c.args.head seen _ c.loop-blocks.index c.loop-blocks.block c.loop-blocks.blocks _ (c.loop-blocks.invariant.1 seen m) c.in-err-mark.ensures)
+pub returns-in_err-mark : goal.returns-in_err-mark
+returns-in_err-mark g c =
+    let p = err_from_is_err_and c.from_residual.result c.from_residual.ensures.1 in
+    rw (p.1, p.2) (λ seen m. onward_stops _ c.args.last c.args.head seen _ c.loop-blocks.index c.loop-blocks.block c.loop-blocks.blocks _ (c.loop-blocks.invariant.1 seen m) c.in_err-mark.ensures)
 
 pub returns-then-index-eq0 : goal.returns-then-index-eq0
 returns-then-index-eq0 g c =
     let shaped = g.met.D.ReadableDevice.shaped c.args.device.now in
-    let done = c.in-ok-mark.ensures in
+    let done = c.in_ok-mark.ensures in
     let room = good_room _ c.loop-blocks.block shaped c.requires.0 done.0 in
     λ seen m. onward_all _ c.args.last c.args.head seen c.loop-blocks.used c.mark.new.used c.loop-blocks.index c.loop-blocks.block c.loop-blocks.blocks c.if-index-eq0.true (omega arith) room done.0 done.1 done.2 (c.loop-blocks.invariant.1 seen m)
 
-pub returns-in-err-block : goal.returns-in-err-block
-returns-in-err-block g c =
+pub returns-in_err-block : goal.returns-in_err-block
+returns-in_err-block g c =
     let shaped = g.met.D.ReadableDevice.shaped c.args.device.now in
-    let done = c.in-ok-mark.ensures in
-    absurd (c.in-err-block.ensures (good_within _ c.loop-blocks.block 4 shaped c.requires.0 done.0 (omega arith)))
+    let done = c.in_ok-mark.ensures in
+    absurd (c.in_err-block.ensures (good_within _ c.loop-blocks.block 4 shaped c.requires.0 done.0 (omega arith)))
 
 pub loop-blocks-preserved : goal.loop-blocks-preserved
 loop-blocks-preserved g c =
     let shaped = g.met.D.ReadableDevice.shaped c.args.device.now in
-    let done = c.in-ok-mark.ensures in
+    let done = c.in_ok-mark.ensures in
     let room = good_room _ c.loop-blocks.block shaped c.requires.0 done.0 in (
       omega arith,
-      λ seen m. onward_more _ c.args.last c.args.head seen c.loop-blocks.used c.mark.new.used c.loop-blocks.index c.loop-blocks.block _ c.loop-blocks.blocks c.if-index-eq0.false c.loop-blocks.invariant.0 (omega arith) room done.0 done.1 done.2 c.in-ok-block.ensures (c.loop-blocks.invariant.1 seen m),
+      λ seen m. onward_more _ c.args.last c.args.head seen c.loop-blocks.used c.mark.new.used c.loop-blocks.index c.loop-blocks.block _ c.loop-blocks.blocks c.if-index-eq0.false c.loop-blocks.invariant.0 (omega arith) room done.0 done.1 done.2 c.in_ok-block.ensures (c.loop-blocks.invariant.1 seen m),
     )

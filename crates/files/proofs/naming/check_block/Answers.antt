@@ -6,21 +6,21 @@ use Rattle.files.proofs.Cards.{good_within}
 use Rattle.files.proofs.Rights.{right_more, right_stops}
 use Rattle.files.proofs.naming.check_block.Goals as goal
 
-pub returns-in-err-named : goal.returns-in-err-named
-returns-in-err-named g c =
+pub returns-in_err-named : goal.returns-in_err-named
+returns-in_err-named g c =
     let shaped = g.met.D.ReadableDevice.shaped c.args.device.now in
     let end : 4 * c.loop-word.word + 4 ≤ 512 = omega (arith, header_le c.args.index, c.pointers-word-end.ensures.is) in
-    λ good. absurd (c.in-err-named.ensures (good_within _ _ (4 * c.loop-word.word + 4) shaped c.requires.0 good end))
+    λ good. absurd (c.in_err-named.ensures (good_within _ _ (4 * c.loop-word.word + 4) shaped c.requires.0 good end))
 
 pub returns-then-named-blocks : goal.returns-then-named-blocks
 returns-then-named-blocks g c =
     let named = c.pointers-word-end.ensures.words.named c.loop-word.word c.loop-word-test.true in
     let step : 1 * 2 ^ c.loop-word.word % 4294967296 ≡ 2 ^ c.loop-word.word = omega arith in
     let less : c.loop-word.word < pointers_of c.args.index = omega (arith, c.pointers-word-end.ensures.is) in
-    λ good. right_stops (g.D.ReadableDevice.meaning c.args.device.now) c.args.blocks.now c.args.index c.loop-word.word _ c.in-ok-named.named step c.in-ok-named.ensures c.if-named-blocks.true less
+    λ good. right_stops (g.D.ReadableDevice.meaning c.args.device.now) c.args.blocks.now c.args.index c.loop-word.word _ c.in_ok-named.named step c.in_ok-named.ensures c.if-named-blocks.true less
 
 pub loop-word-preserved : goal.loop-word-preserved
 loop-word-preserved g c =
     let named = c.pointers-word-end.ensures.words.named c.loop-word.word c.loop-word-test.true in
     let step : 1 * 2 ^ c.loop-word.word % 4294967296 ≡ 2 ^ c.loop-word.word = omega arith in
-    right_more (g.D.ReadableDevice.meaning c.args.device.now) c.args.blocks.now c.args.index c.loop-word.word _ c.in-ok-named.named step c.in-ok-named.ensures c.if-named-blocks.false c.loop-word.invariant
+    right_more (g.D.ReadableDevice.meaning c.args.device.now) c.args.blocks.now c.args.index c.loop-word.word _ c.in_ok-named.named step c.in_ok-named.ensures c.if-named-blocks.false c.loop-word.invariant

@@ -5,14 +5,14 @@ use Rattle.skiplist.proofs.Strides.{power_le_top}
 use Rattle.files.proofs.Reaches.{reached_more, reached_within}
 use Rattle.files.proofs.seeking.seek.Goals as goal
 
-pub returns-in-err-block : goal.returns-in-err-block
-returns-in-err-block g c =
+pub returns-in_err-block : goal.returns-in_err-block
+returns-in_err-block g c =
     let card = g.D.ReadableDevice.meaning c.args.device.now in
     let shaped = g.met.D.ReadableDevice.shaped c.args.device.now in
-    λ bs f le. absurd (c.in-err-block.ensures (reached_within card bs c.args.head c.args.last c.args.to c.loop-word.from c.loop-word.block c.in-Some.word shaped c.requires f c.in-Some.ensures (c.loop-word.invariant.1 bs f le)))
+    λ bs f le. absurd (c.in_err-block.ensures (reached_within card bs c.args.head c.args.last c.args.to c.loop-word.from c.loop-word.block c.in-Some.word shaped c.requires f c.in-Some.ensures (c.loop-word.invariant.1 bs f le)))
 
-pub overflow-shl-from : goal.overflow-shl-from
-overflow-shl-from g c =
+pub overflow_shl-from : goal.overflow_shl-from
+overflow_shl-from g c =
     let at = c.in-Some.ensures in
     let top = power_le_top (c.loop-word.from - c.args.to) 31 c.in-Some.word (omega arith) at.within in
     omega arith
@@ -31,5 +31,5 @@ loop-word-preserved g c =
     let within = at.within in
     let step : 1 * 2 ^ c.in-Some.word % 4294967296 ≡ 2 ^ c.in-Some.word = omega arith in (
       omega arith,
-      λ bs f le. reached_more card bs c.args.head c.args.last c.args.to c.loop-word.from c.loop-word.block c.in-Some.word (1 * 2 ^ c.in-Some.word % 4294967296) c.in-ok-block.block f at step c.in-ok-block.ensures (c.loop-word.invariant.1 bs f le),
+      λ bs f le. reached_more card bs c.args.head c.args.last c.args.to c.loop-word.from c.loop-word.block c.in-Some.word (1 * 2 ^ c.in-Some.word % 4294967296) c.in_ok-block.block f at step c.in_ok-block.ensures (c.loop-word.invariant.1 bs f le),
     )

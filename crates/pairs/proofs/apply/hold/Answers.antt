@@ -17,8 +17,8 @@ returns-then-bytes-gt-LONGEST c =
 pub returns : goal.returns
 returns c =
     let t = c.args.table.now in
-    let u = c.set-content.new.self in
+    let u = c.set_content.new.self in
     let i = c.args.id in
     let xs = c.args.bytes.now in
     let pass : (leb (length xs) 64 && ltb i t.count) ≡ true = grind (arith, nat_tests) in
-    record { change = holds_done t u i c.args.at xs pass (omega arith) c.set-content.ensures; few = changed_count t u i _ c.set-content.ensures }
+    record { change = holds_done t u i c.args.at xs pass (omega arith) c.set_content.ensures; few = changed_count t u i _ c.set_content.ensures }

@@ -16,10 +16,10 @@ returns-then-bytes-lt1 c =
 pub returns : goal.returns
 returns c =
     let t = c.args.table.now in
-    let u = c.set-name.new.self in
+    let u = c.set_name.new.self in
     let xs = c.args.bytes.now in
     let pass : (leb 1 (length xs) && leb (length xs) 64) ≡ true = grind (arith, nat_tests) in
     record {
-      change = names_done t u c.args.id c.args.at xs c.args.kind pass c.set-name.ensures;
-      few = omega (arith, named_count t u c.args.id _ c.set-name.ensures);
+      change = names_done t u c.args.id c.args.at xs c.args.kind pass c.set_name.ensures;
+      few = omega (arith, named_count t u c.args.id _ c.set_name.ensures);
     }

@@ -7,10 +7,10 @@ use Rattle.pairs.proofs.Growth.{changed_count}
 use Rattle.pairs.proofs.Applied.{two_none, two_some, skips_done, skips_refused}
 use Rattle.pairs.proofs.apply.skip.Goals as goal
 
-pub returns-in-default : goal.returns-in-default
-returns-in-default c =
+pub returns-in_default : goal.returns-in_default
+returns-in_default c =
     let t = c.args.table.now in
-    record { change = λ at. skips_refused t t c.args.id at c.args.bytes.now (and_left _ _ (two_none _ c.in-default.ensures)); few = refl }
+    record { change = λ at. skips_refused t t c.args.id at c.args.bytes.now (and_left _ _ (two_none _ c.in_default.ensures)); few = refl }
 
 pub returns-then-id-count : goal.returns-then-id-count
 returns-then-id-count c =
@@ -25,9 +25,9 @@ returns-then-id-count c =
 pub returns : goal.returns
 returns c =
     let t = c.args.table.now in
-    let u = c.set-content.new.self in
+    let u = c.set_content.new.self in
     let i = c.args.id in
     record {
-      change = λ at. skips_done t u i at c.args.bytes.now _ _ c.in-Some.ensures (omega arith) (omega arith) (omega arith) c.set-content.ensures;
-      few = changed_count t u i _ c.set-content.ensures;
+      change = λ at. skips_done t u i at c.args.bytes.now _ _ c.in-Some.ensures (omega arith) (omega arith) (omega arith) c.set_content.ensures;
+      few = changed_count t u i _ c.set_content.ensures;
     }

@@ -42,21 +42,21 @@ loop-left-preserved-else-not-apply c =
     let g = gave (goal.at.loop-left-preserved-else-not-apply c).In-Some _ (ap item_of c.in-Held.is) in
     (c.in-Some.ensures.block ∙ c.loop-left.invariant.0, after_held _ _ _ _ _ _ _ c.requires.0 c.loop-left.invariant.1 _ _ g c.loop-left-test.true c.if-not-apply.ensures.change c.if-not-apply.ensures.few)
 
-pub returns-then-end-ne-NO-ID : goal.returns-then-end-ne-NO-ID
-returns-then-end-ne-NO-ID c =
-    let g = gave (goal.at.returns-then-end-ne-NO-ID c).In-Some _ (ap item_of c.in-Ended.is) in
+pub returns-then-end-ne-NO_ID : goal.returns-then-end-ne-NO_ID
+returns-then-end-ne-NO_ID c =
+    let g = gave (goal.at.returns-then-end-ne-NO_ID c).In-Some _ (ap item_of c.in-Ended.is) in
     let there = tag_inside c.args.block.now (cursor_of c.loop-left.reader) (end_for c.in-Ended.end) g.item in
-    record { made = at_ended_wrong _ _ _ _ _ _ _ c.requires.0 c.loop-left.invariant.1 _ g c.if-end-ne-NO-ID.true; inside = omega (arith, there, c.requires.0) }
+    record { made = at_ended_wrong _ _ _ _ _ _ _ c.requires.0 c.loop-left.invariant.1 _ g c.if-end-ne-NO_ID.true; inside = omega (arith, there, c.requires.0) }
 
 pub loop-left-preserved : goal.loop-left-preserved
 loop-left-preserved c =
     let g = gave (goal.at.loop-left-preserved c).In-Some _ (ap item_of c.in-Ended.is) in
-    (c.in-Some.ensures.block ∙ c.loop-left.invariant.0, after_ended _ _ _ _ _ _ _ c.requires.0 c.loop-left.invariant.1 _ g c.loop-left-test.true c.if-end-ne-NO-ID.false)
+    (c.in-Some.ensures.block ∙ c.loop-left.invariant.0, after_ended _ _ _ _ _ _ _ c.requires.0 c.loop-left.invariant.1 _ g c.loop-left-test.true c.if-end-ne-NO_ID.false)
 
 pub returns-after-loop-left : goal.returns-after-loop-left
 returns-after-loop-left c = record { made = at_last _ _ (cursor_of c.loop-left.reader) _ 0 _ _ c.requires.0 c.loop-left.invariant.1 (omega arith); inside = tt }
 
-pub returns-in-default : goal.returns-in-default
-returns-in-default c =
-    let none = subst (λ b. None ≡ (step b (cursor_of c.loop-left.reader)).item) c.loop-left.invariant.0 c.in-default.ensures.item in
+pub returns-in_default : goal.returns-in_default
+returns-in_default c =
+    let none = subst (λ b. None ≡ (step b (cursor_of c.loop-left.reader)).item) c.loop-left.invariant.0 c.in_default.ensures.item in
     record { made = at_none _ _ (cursor_of c.loop-left.reader) _ 0 _ _ c.requires.0 c.loop-left.invariant.1 none; inside = tt }

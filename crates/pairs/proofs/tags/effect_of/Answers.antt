@@ -47,6 +47,6 @@ pub returns-in-2047 : goal.returns-in-2047
 unfolding effect_of
 returns-in-2047 c = search rules
 
-pub returns-in-default : goal.returns-in-default
+pub returns-in_default : goal.returns-in_default
 unfolding effect_of
-returns-in-default c = search rules
+returns-in_default c = search rules

@@ -3,10 +3,10 @@ use Rattle.std.proofs.Common.{rules}
 use Rattle.volume.specs.Tree.{is_name}
 use Rattle.volume.proofs.names.is_name.Goals as goal
 
-pub returns-then-is-plain : goal.returns-then-is-plain
+pub returns-then-is_plain : goal.returns-then-is_plain
 unfolding is_name
-returns-then-is-plain c = search rules
+returns-then-is_plain c = search rules
 
-pub returns-else-is-plain : goal.returns-else-is-plain
+pub returns-else-is_plain : goal.returns-else-is_plain
 unfolding is_name
-returns-else-is-plain c = search rules
+returns-else-is_plain c = search rules

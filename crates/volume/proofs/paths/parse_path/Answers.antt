@@ -21,4 +21,4 @@ returns-then-path-eq1 c = record { few = omega arith; room = refl; are = no_name
 pub returns : goal.returns
 returns c =
     let path = c.args.path.now in
-    subst (λ names. NamesOf path names c.split-names.result) (sym (some_names path (omega arith) c.if-path-ne47.false)) c.split-names.ensures
+    subst (λ names. NamesOf path names c.split_names.result) (sym (some_names path (omega arith) c.if-path-ne47.false)) c.split_names.ensures

@@ -4,14 +4,14 @@ use Rattle.flash.specs.Write.{is_erased}
 use Rattle.parts.proofs.Checked.{program_outside, program_bad, program_used, program_passes}
 use Rattle.parts.proofs.cells.Cells.check_program.Goals as goal
 
-pub returns-then-not-is-unit : goal.returns-then-not-is-unit
-returns-then-not-is-unit c = record { why = λ good _. program_outside _ _ _ _ _ _ good (sym c.if-not-is-unit.ensures); inside = search rules }
+pub returns-then-not-is_unit : goal.returns-then-not-is_unit
+returns-then-not-is_unit c = record { why = λ good _. program_outside _ _ _ _ _ _ good (sym c.if-not-is_unit.ensures); inside = search rules }
 
-pub returns-then-not-is-good : goal.returns-then-not-is-good
-returns-then-not-is-good c = record { why = λ good g. program_bad _ _ _ _ _ _ good (sym c.if-not-is-unit.ensures) (g ∙ c.if-not-is-good.true); inside = search rules }
+pub returns-then-not-is_good : goal.returns-then-not-is_good
+returns-then-not-is_good c = record { why = λ good g. program_bad _ _ _ _ _ _ good (sym c.if-not-is_unit.ensures) (g ∙ c.if-not-is_good.true); inside = search rules }
 
-pub returns-then-not-is-erased : goal.returns-then-not-is-erased
-returns-then-not-is-erased c = record { why = λ good g. program_used _ _ _ _ _ _ good (sym c.if-not-is-unit.ensures) (g ∙ c.if-not-is-good.false) (ap is_erased (sym c.part.ensures.value) ∙ sym c.if-not-is-erased.ensures); inside = search rules }
+pub returns-then-not-is_erased : goal.returns-then-not-is_erased
+returns-then-not-is_erased c = record { why = λ good g. program_used _ _ _ _ _ _ good (sym c.if-not-is_unit.ensures) (g ∙ c.if-not-is_good.false) (ap is_erased (sym c.part.ensures.value) ∙ sym c.if-not-is_erased.ensures); inside = search rules }
 
 pub returns : goal.returns
-returns c = record { why = λ good g. program_passes _ _ _ _ _ _ good (sym c.if-not-is-unit.ensures) (g ∙ c.if-not-is-good.false) (ap is_erased (sym c.part.ensures.value) ∙ sym c.if-not-is-erased.ensures); inside = search rules }
+returns c = record { why = λ good g. program_passes _ _ _ _ _ _ good (sym c.if-not-is_unit.ensures) (g ∙ c.if-not-is_good.false) (ap is_erased (sym c.part.ensures.value) ∙ sym c.if-not-is_erased.ensures); inside = search rules }

@@ -4,8 +4,8 @@ use Rattle.parts.proofs.Checked.{part_lies}
 use Rattle.parts.proofs.Replaced.{part_within}
 use Rattle.parts.proofs.cells.Cells.part.Goals as goal
 
-pub slice-bounds-result-end : goal.slice-bounds-result-end
-slice-bounds-result-end c =
+pub slice_bounds-result-end : goal.slice_bounds-result-end
+slice_bounds-result-end c =
     let within = part_within c.args.self.now.size c.args.self.now.count c.args.block c.args.at c.args.n (length c.args.self.now.bytes.items) c.requires.0 c.requires.1 c.args.self.now.whole in
     let long = ap length c.deref-bytes.ensures.value in
     let end : c.place-start.result + c.args.n ≤ length c.deref-bytes.result.now = omega arith in

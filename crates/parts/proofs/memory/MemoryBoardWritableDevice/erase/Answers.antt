@@ -6,9 +6,9 @@ use Rattle.parts.proofs.memory.MemoryBoardWritableDevice.erase.Goals as goal
 
 pub returns : goal.returns
 returns c =
-    let after = c.erase-first.new.self in
-    let checked = c.in-ok-check-erase.ensures in (
-      checked.why (replicate c.args.self.now.cells.count true) (sym c.is-good.ensures),
-      ap (λ n. card after.size after.count (vec_items after.bytes) (replicate n true) false) c.erase-first.ensures.same_count ∙ erase_done _ _ _ _ _ _ _ _ _ _ c.size.ensures checked.inside c.args.self.now.cells.whole c.erase-first.ensures,
+    let after = c.erase_first.new.self in
+    let checked = c.in_ok-check_erase.ensures in (
+      checked.why (replicate c.args.self.now.cells.count true) (sym c.is_good.ensures),
+      ap (λ n. card after.size after.count (vec_items after.bytes) (replicate n true) false) c.erase_first.ensures.same_count ∙ erase_done _ _ _ _ _ _ _ _ _ _ c.size.ensures checked.inside c.args.self.now.cells.whole c.erase_first.ensures,
       record { each = λ _ _. tt },
     )

@@ -5,12 +5,12 @@ use Rattle.parts.specs.Chip.{chip, is_in}
 use Rattle.parts.specs.Cards.{card_fresh}
 use Rattle.parts.proofs.nor.NorChip.new.Goals as goal
 
-pub invariant-of-result : goal.invariant-of-result
-invariant-of-result c =
-    let made = c.in-ok-cells.ensures in
-    (ap length c.in-Ok.ensures ∙ length-map-range_with_len (λ b. not (is_in b c.args.bad.now)) 0 c.args.block-count ∙ sym made.1.1, tt)
+pub invariant_of-result : goal.invariant_of-result
+invariant_of-result c =
+    let made = c.in_ok-cells.ensures in
+    record { marked = ap length c.in-Ok.ensures ∙ length-map-range_with_len (λ b. not (is_in b c.args.bad.now)) 0 c.args.block_count ∙ sym made.1.1 }
 
 pub returns-in-Ok : goal.returns-in-Ok
 returns-in-Ok c =
-    let made = c.in-ok-cells.ensures in
+    let made = c.in_ok-cells.ensures in
     (made.0, ap (λ x. chip x 0) (card_fresh _ _ _ _ _ _ _ made.1.0 made.1.1 made.1.2 c.in-Ok.ensures))

@@ -6,6 +6,6 @@ use Rattle.parts.proofs.nor.making.marks.Goals as goal
 
 pub returns : goal.returns
 returns c =
-    with_items_is c.in-ok-good.good c.mark-bad.new.good (c.mark-bad.auto.good ∙ c.deref-mut.ensures.len)
-    ∙ c.mark-bad.ensures
-    ∙ ap (λ n. good_but n c.args.bad.now) (c.deref-mut.ensures.len ∙ c.in-ok-good.ensures.len)
+    with_items_is c.in_ok-good.good c.mark_bad.new.good (c.mark_bad.auto.good ∙ c.deref_mut.ensures.len)
+    ∙ c.mark_bad.ensures
+    ∙ ap (λ n. good_but n c.args.bad.now) (c.deref_mut.ensures.len ∙ c.in_ok-good.ensures.len)

@@ -14,18 +14,18 @@ pub returns-then-spend : goal.returns-then-spend
 returns-then-spend c =
     let self = c.args.self.now in
     let good = vec_items self.good in
-    let checked = c.in-ok-check-erase.ensures in
+    let checked = c.in_ok-check_erase.ensures in
     let spent = c.if-spend.ensures in
-    let left = erase_torn _ _ _ _ _ _ _ _ good self.power.dark (ap (λ n. n / 2) c.size-size.ensures) c.erase-first.ensures in
-    let both = cut_exactly _ _ _ _ _ _ _ _ _ _ _ _ self.cells.whole self.marked c.if-self.false (checked.why good (sym c.is-good.ensures)) spent.goes spent.left spent.dark left in
+    let left = erase_torn _ _ _ _ _ _ _ _ good self.power.dark (ap (λ n. n / 2) c.size-size.ensures) c.erase_first.ensures in
+    let both = cut_exactly _ _ _ _ _ _ _ _ _ _ _ _ self.cells.whole self.marked c.if-self.false (checked.why good (sym c.is_good.ensures)) spent.goes spent.left spent.dark left in
     record { answers = both.0; exact = both.1 }
 
 pub returns : goal.returns
 returns c =
     let self = c.args.self.now in
     let good = vec_items self.good in
-    let checked = c.in-ok-check-erase.ensures in
+    let checked = c.in_ok-check_erase.ensures in
     let spent = c.if-spend.ensures in
-    let left = erase_done _ _ _ _ _ _ _ _ good self.power.dark c.size-size.ensures checked.inside self.cells.whole c.erase-first-2.ensures in
-    let both = done_exactly _ _ _ _ _ _ _ _ _ _ _ _ self.cells.whole self.marked c.if-self.false (checked.why good (sym c.is-good.ensures)) spent.goes spent.left spent.dark left in
+    let left = erase_done _ _ _ _ _ _ _ _ good self.power.dark c.size-size.ensures checked.inside self.cells.whole c.erase_first-2.ensures in
+    let both = done_exactly _ _ _ _ _ _ _ _ _ _ _ _ self.cells.whole self.marked c.if-self.false (checked.why good (sym c.is_good.ensures)) spent.goes spent.left spent.dark left in
     record { answers = both.0; exact = both.1 }

@@ -15,20 +15,20 @@ pub returns-then-spend : goal.returns-then-spend
 returns-then-spend c =
     let self = c.args.self.now in
     let good = vec_items self.good in
-    let checked = c.in-ok-check-program.ensures in
+    let checked = c.in_ok-check_program.ensures in
     let spent = c.if-spend.ensures in
     let after = c.put.new.self in
     let left = program_torn self.cells.size self.cells.count c.args.block c.args.at after.size after.count c.args.unit.now (take 8 c.args.unit.now) (vec_items self.cells.bytes) (vec_items after.bytes) good self.power.dark checked.inside.1 refl c.put.ensures in
-    let both = cut_exactly self.cells.size self.cells.count self.power.left after.size after.count c.spend.new.self.left (vec_items self.cells.bytes) (vec_items after.bytes) good self.power.dark c.spend.new.self.dark (program c.args.block c.args.at c.args.unit.now) self.cells.whole self.marked c.if-self.false (checked.why good (sym c.is-good.ensures)) spent.goes spent.left spent.dark left in
+    let both = cut_exactly self.cells.size self.cells.count self.power.left after.size after.count c.spend.new.self.left (vec_items self.cells.bytes) (vec_items after.bytes) good self.power.dark c.spend.new.self.dark (program c.args.block c.args.at c.args.unit.now) self.cells.whole self.marked c.if-self.false (checked.why good (sym c.is_good.ensures)) spent.goes spent.left spent.dark left in
     record { answers = both.0; exact = both.1 }
 
 pub returns : goal.returns
 returns c =
     let self = c.args.self.now in
     let good = vec_items self.good in
-    let checked = c.in-ok-check-program.ensures in
+    let checked = c.in_ok-check_program.ensures in
     let spent = c.if-spend.ensures in
     let after = c.put-2.new.self in
     let left = program_done self.cells.size self.cells.count c.args.block c.args.at after.size after.count c.args.unit.now (vec_items self.cells.bytes) (vec_items after.bytes) good self.power.dark checked.inside.1 c.put-2.ensures in
-    let both = done_exactly self.cells.size self.cells.count self.power.left after.size after.count c.spend.new.self.left (vec_items self.cells.bytes) (vec_items after.bytes) good self.power.dark c.spend.new.self.dark (program c.args.block c.args.at c.args.unit.now) self.cells.whole self.marked c.if-self.false (checked.why good (sym c.is-good.ensures)) spent.goes spent.left spent.dark left in
+    let both = done_exactly self.cells.size self.cells.count self.power.left after.size after.count c.spend.new.self.left (vec_items self.cells.bytes) (vec_items after.bytes) good self.power.dark c.spend.new.self.dark (program c.args.block c.args.at c.args.unit.now) self.cells.whole self.marked c.if-self.false (checked.why good (sym c.is_good.ensures)) spent.goes spent.left spent.dark left in
     record { answers = both.0; exact = both.1 }
