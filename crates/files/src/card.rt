@@ -20,7 +20,7 @@ fn reason(refusal: Refusal) -> What
 
 // The size of a card's blocks, where the card is not dark and is one.
 pub(crate) fn card_size<D: ReadableDevice>(device: &D) -> Result<BlockSize, What>
-    ensures { SizeTold (meaning device.now) result }
+    ensures { SizeTold (D.meaning device.now) result }
 {
     if device.is_dark() {
         return Err(What::Dark);
@@ -53,7 +53,7 @@ pub(crate) fn read_part<D: ReadableDevice>(
     at: u32,
     out: &mut [u8],
 ) -> Result<(), What>
-    ensures { PartRead (meaning device.now) block at out.old result out.new }
+    ensures { PartRead (D.meaning device.now) block at out.old result out.new }
 {
     match device.read(block, at, out) {
         Ok(()) => Ok(()),
@@ -70,7 +70,7 @@ fn word_of(bytes: &[u8; 4]) -> u32
 
 // The word at an offset of a block.
 pub(crate) fn word_at<D: ReadableDevice>(device: &D, block: u32, at: u32) -> Result<u32, What>
-    ensures { WordAt (meaning device.now) block at result }
+    ensures { WordAt (D.meaning device.now) block at result }
 {
     let mut word = [0; 4];
     read_part(device, block, at, &mut word)?;

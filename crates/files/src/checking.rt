@@ -31,7 +31,7 @@ pub fn check_file<D: ReadableDevice>(
     head: u32,
     length: u32,
 ) -> Result<(), What>
-    ensures { (seen : List ℕ) → Marks used.old seen → FileChecked (meaning device.now) seen head length result used.new }
+    ensures { (seen : List ℕ) → Marks used.old seen → FileChecked (D.meaning device.now) seen head length result used.new }
 {
     let size = card_size(device)?;
     let Some(last) = last_block(size, length) else {

@@ -21,10 +21,10 @@ pub(crate) fn copy<D: ReadableDevice>(
     place: u32,
     out: &mut [u8],
 ) -> Result<(), What>
-    requires fit { Fit (meaning device.now) }
-    requires size_value { bytes_of size ≡ (meaning device.now).size }
+    requires fit { Fit (D.meaning device.now) }
+    requires size_value { bytes_of size ≡ (D.meaning device.now).size }
     requires out_bound { place + length out.old ≤ file_limit }
-    ensures { (bs : List ℕ) → FileAt (meaning device.now) bs head last → place + length out.old ≤ start_of (bytes_of size) (suc last) → Copied (meaning device.now) bs place out.old result out.new }
+    ensures { (bs : List ℕ) → FileAt (D.meaning device.now) bs head last → place + length out.old ≤ start_of (bytes_of size) (suc last) → Copied (D.meaning device.now) bs place out.old result out.new }
 {
     let mut done = 0;
     while done < out.len() {

@@ -10,7 +10,7 @@ use volume::What;
 
 // Puts a block of a file into the set, where it is good and serves nothing yet.
 fn mark<D: ReadableDevice>(device: &D, used: &mut BlockSet, block: u32) -> Result<(), What>
-    ensures { Marked (meaning device.now) used.old block result used.new }
+    ensures { Marked (D.meaning device.now) used.old block result used.new }
 {
     if !device.is_good(block) {
         return Err(What::EntryBlock);
@@ -30,9 +30,9 @@ pub(crate) fn mark_chain<D: ReadableDevice>(
     head: u32,
     last: u32,
 ) -> Result<(), What>
-    requires fit { Fit (meaning device.now) }
+    requires fit { Fit (D.meaning device.now) }
     requires last_in_bounds { last < length blocks.old }
-    ensures { (seen : List ℕ) → Marks used.old seen → Chained (meaning device.now) seen head last result used.new blocks.new }
+    ensures { (seen : List ℕ) → Marks used.old seen → Chained (D.meaning device.now) seen head last result used.new blocks.new }
 {
     let mut block = head;
     let mut index = last;

@@ -11,9 +11,9 @@ use volume::What;
 
 // Checks the words of one block: word k of block i names block i - 2^k.
 fn check_block<D: ReadableDevice>(device: &D, blocks: &[u32], index: u32) -> Result<(), What>
-    requires fit { Fit (meaning device.now) }
+    requires fit { Fit (D.meaning device.now) }
     requires index_in_bounds { index < length blocks.now }
-    ensures { usable (meaning device.now) (slice_index blocks.now index) ≡ true → Told (block_fault (meaning device.now) blocks.now index) result }
+    ensures { usable (D.meaning device.now) (slice_index blocks.now index) ≡ true → Told (block_fault (D.meaning device.now) blocks.now index) result }
 {
     let block = blocks[index as usize];
     for word in 0..pointers(index) {
@@ -27,9 +27,9 @@ fn check_block<D: ReadableDevice>(device: &D, blocks: &[u32], index: u32) -> Res
 
 // Checks the words of all blocks of a file.
 pub(crate) fn check_words<D: ReadableDevice>(device: &D, blocks: &[u32]) -> Result<(), What>
-    requires fit { Fit (meaning device.now) }
+    requires fit { Fit (D.meaning device.now) }
     requires blocks_len_bound { length blocks.now ≤ 4096 }
-    ensures { AllUsable (meaning device.now) blocks.now → Told (word_fault (meaning device.now) blocks.now) result }
+    ensures { AllUsable (D.meaning device.now) blocks.now → Told (word_fault (D.meaning device.now) blocks.now) result }
 {
     for index in 0..blocks.len() as u32 {
         check_block(device, blocks, index)?;

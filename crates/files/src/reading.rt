@@ -18,8 +18,8 @@ pub fn read_file<D: ReadableDevice>(
     place: u32,
     out: &mut [u8],
 ) -> Result<usize, Fault>
-    ensures sound { (seen : List ℕ) → verdict (meaning device.now) seen head length ≡ None → FileRead (meaning device.now) head length place out.old result out.new }
-    ensures refused { Refused (meaning device.now) length (λ w. fault w head 0) out.old result out.new }
+    ensures sound { (seen : List ℕ) → verdict (D.meaning device.now) seen head length ≡ None → FileRead (D.meaning device.now) head length place out.old result out.new }
+    ensures refused { Refused (D.meaning device.now) length (λ w. fault w head 0) out.old result out.new }
 {
     match read_bytes(device, head, length, place, out) {
         Ok(count) => Ok(count),
@@ -39,8 +39,8 @@ fn read_bytes<D: ReadableDevice>(
     place: u32,
     out: &mut [u8],
 ) -> Result<usize, What>
-    ensures sound { (seen : List ℕ) → verdict (meaning device.now) seen head length ≡ None → FileRead (meaning device.now) head length place out.old result out.new }
-    ensures refused { Refused (meaning device.now) length (λ w. w) out.old result out.new }
+    ensures sound { (seen : List ℕ) → verdict (D.meaning device.now) seen head length ≡ None → FileRead (D.meaning device.now) head length place out.old result out.new }
+    ensures refused { Refused (D.meaning device.now) length (λ w. w) out.old result out.new }
 {
     let size = card_size(device)?;
     let Some(last) = last_block(size, length) else {

@@ -15,8 +15,8 @@ pub(crate) fn seek<D: ReadableDevice>(
     last: u32,
     to: u32,
 ) -> Result<u32, What>
-    requires { Fit (meaning device.now) }
-    ensures { (bs : List ℕ) → FileAt (meaning device.now) bs head last → to ≤ last → result ≡ Ok (slice_index bs to) }
+    requires { Fit (D.meaning device.now) }
+    ensures { (bs : List ℕ) → FileAt (D.meaning device.now) bs head last → to ≤ last → result ≡ Ok (slice_index bs to) }
 {
     let mut block = head;
     let mut from = last;

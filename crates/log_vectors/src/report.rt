@@ -2,7 +2,7 @@
 // The two are printed each for itself, so a line shows where they disagree.
 use flash::is_erased;
 use metalog::{Entry, Item, LogReader, Survey};
-use std::alloc::Global;
+use std::alloc::{AllocError, Global};
 use std::fmt;
 use std::fmt::Write;
 
@@ -49,7 +49,7 @@ fn summary(heap: Global, block: &[u8]) -> anyhow::Result<String> {
 }
 
 // Adds a tag to the text of a commit.
-fn add_entry(text: &mut String, entry: Entry<'_>) -> fmt::Result {
+fn add_entry(text: &mut String, entry: Entry<'_>) -> Result<(), AllocError> {
     let kind = entry.kind;
     let id = entry.id;
     let offset = entry.offset;

@@ -36,7 +36,7 @@ impl Desk {
         list: &mut PairList,
         used: &mut BlockSet,
     ) -> Result<Moves, Fault>
-        ensures walks { Walks (meaning device.now) result list.new used.new }
+        ensures walks { Walks (D.meaning device.now) result list.new used.new }
         ensures cleared { (ps : List Pair) → OnDesk ps self.new }
     {
         self.place = None;
@@ -60,7 +60,7 @@ impl Desk {
         list: &PairList,
         place: usize,
     ) -> Result<(), Fault>
-        ensures { (ps : List Pair) (p : Pair) → Listed (meaning device.now) ps list.now → OnDesk ps self.old → slice_get ps place ≡ Some p → Loads ps place p result self.new }
+        ensures { (ps : List Pair) (p : Pair) → Listed (D.meaning device.now) ps list.now → OnDesk ps self.old → slice_get ps place ≡ Some p → Loads ps place p result self.new }
     {
         if self.has(place) {
             return Ok(());

@@ -76,7 +76,7 @@ fn tail_fault<D: ReadableDevice>(
     used: &BlockSet,
     next: Option<(u32, u32)>,
 ) -> Option<What>
-    ensures { (seen : List ℕ) → Marks used.now seen → result ≡ tail_fault (meaning device.now) seen (next_for next) }
+    ensures { (seen : List ℕ) → Marks used.now seen → result ≡ tail_fault (D.meaning device.now) seen (next_for next) }
 {
     let (a, b) = next?;
     if !(device.is_good(a) && device.is_good(b)) {
@@ -90,7 +90,7 @@ fn tail_fault<D: ReadableDevice>(
 
 // What is wrong with a pair that was read, besides its log: where its tail leads, then how much it holds.
 fn pair_fault<D: ReadableDevice>(device: &D, used: &BlockSet, pairs: &PairReader) -> Option<What>
-    ensures { (seen : List ℕ) → Marks used.now seen → result ≡ fault_in (meaning device.now) seen (state_in pairs.now) }
+    ensures { (seen : List ℕ) → Marks used.now seen → result ≡ fault_in (D.meaning device.now) seen (state_in pairs.now) }
 {
     let next = next_of(pairs.tail());
     if let Some(what) = tail_fault(device, used, next) {
@@ -110,8 +110,8 @@ pub(crate) fn read_next<D: ReadableDevice>(
     a: u32,
     b: u32,
 ) -> Result<Visit, Fault>
-    requires { Fit (meaning device.now) a b }
-    ensures { (seen : List ℕ) → Marks used.now seen → Visits (meaning device.now) seen a b result }
+    requires { Fit (D.meaning device.now) a b }
+    ensures { (seen : List ℕ) → Marks used.now seen → Visits (D.meaning device.now) seen a b result }
 {
     let block = pairs.read(device, a, b)?;
     if let Some(what) = pair_fault(device, used, pairs) {

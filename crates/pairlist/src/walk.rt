@@ -34,7 +34,7 @@ fn fault_at(what: What, block: u32) -> Fault
 
 // What is wrong with a card before anything is read of it.
 fn enter<D: ReadableDevice>(device: &D) -> Result<(), Fault>
-    ensures { Enters (meaning device.now) result }
+    ensures { Enters (D.meaning device.now) result }
 {
     if device.is_dark() {
         return Err(fault_at(What::Dark, 0));
@@ -77,8 +77,8 @@ fn follow<D: ReadableDevice>(
     list: &mut PairList,
     used: &mut BlockSet,
 ) -> Result<Moves, Fault>
-    requires { Ready (meaning device.now) list.old used.old }
-    ensures { Walks (meaning device.now) result list.new used.new }
+    requires { Ready (D.meaning device.now) list.old used.old }
+    ensures { Walks (D.meaning device.now) result list.new used.new }
 {
     let mut a = 0;
     let mut b = 1;
@@ -132,7 +132,7 @@ impl PairList {
         pairs: &mut PairReader,
         used: &mut BlockSet,
     ) -> Result<Moves, Fault>
-        ensures { Walks (meaning device.now) result self.new used.new }
+        ensures { Walks (D.meaning device.now) result self.new used.new }
     {
         enter(device)?;
         used.clear();

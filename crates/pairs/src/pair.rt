@@ -37,8 +37,8 @@ fn fault(what: What, block: u32) -> Fault
 
 // Reads a whole block, and says what its log is in short.
 fn survey<D: ReadableDevice>(device: &D, block: u32, out: &mut [u8]) -> Result<Survey, Fault>
-    requires { length out.old ≡ (meaning device.now).size }
-    ensures { Surveys (meaning device.now) block result out.new }
+    requires { length out.old ≡ (D.meaning device.now).size }
+    ensures { Surveys (D.meaning device.now) block result out.new }
 {
     device.read(block, 0, out)?;
     Ok(Survey::of(out))
@@ -47,7 +47,7 @@ fn survey<D: ReadableDevice>(device: &D, block: u32, out: &mut [u8]) -> Result<S
 impl PairReader {
     // Reads a pair of blocks. The answer is the block whose log counts, or the first fault.
     pub fn read<D: ReadableDevice>(&mut self, device: &D, a: u32, b: u32) -> Result<u32, Fault>
-        ensures { PairReads (meaning device.now) a b result self.new }
+        ensures { PairReads (D.meaning device.now) a b result self.new }
     {
         let size = device.block_size() as usize;
         if size > BUFFER {
@@ -73,8 +73,8 @@ impl PairReader {
         block: u32,
         size: usize,
     ) -> Result<Survey, Fault>
-        requires { (size ≡ (meaning device.now).size) × (size ≤ 4096) }
-        ensures { Surveys (meaning device.now) block result (take size self.new.block) }
+        requires { (size ≡ (D.meaning device.now).size) × (size ≤ 4096) }
+        ensures { Surveys (D.meaning device.now) block result (take size self.new.block) }
     {
         survey(device, block, &mut self.block[0..size])
     }

@@ -53,9 +53,9 @@ fn check_blocks<D: ReadableDevice>(
     trail: &mut Trail,
     content: Option<Content>,
 ) -> Result<(), What>
-    requires card { Readable (meaning device.now) }
+    requires card { Readable (D.meaning device.now) }
     requires sized { (b : List ℕ) → SizedIn (option_map (content_of b) content) }
-    ensures { (b seen : List ℕ) → Marks used.old seen → BlocksChecked (meaning device.now) seen (option_map (content_of b) content) result used.new }
+    ensures { (b seen : List ℕ) → Marks used.old seen → BlocksChecked (D.meaning device.now) seen (option_map (content_of b) content) result used.new }
 {
     let Some(content) = content else {
         return Ok(());

@@ -11,7 +11,7 @@ returns-in_err-block g c =
     let at = c.in-Some.ensures in
     let inside = at.inside in
     λ bs f fits.
-    let here = from_block card bs c.args.head c.args.last (bytes_of c.args.size) (c.args.place + c.loop-done.done) 0 c.in-Some.location.block c.in-Some.location.byte shaped c.requires.0 c.requires.1 f at.stands (omega arith) (omega arith) in
+    let here = from_block card bs c.args.head c.args.last (bytes_of c.args.size) (c.args.place + c.loop-done.done) 0 c.in-Some.location.block c.in-Some.location.byte shaped c.requires.fit c.requires.size_value f at.stands (omega arith) (omega arith) in
     absurd (no_answer _ _ (c.in_err-block.ensures bs f here.before))
 
 pub returns-in_err-read_part : goal.returns-in_err-read_part
@@ -25,7 +25,7 @@ returns-in_err-read_part g c =
     let e = n + c.min.result in
     let room : e ≤ length c.loop-done.out = omega arith in
     λ bs f fits.
-    let here = from_block card bs c.args.head c.args.last (bytes_of c.args.size) (c.args.place + n) (e - n) i c.in-Some.location.byte shaped c.requires.0 c.requires.1 f at.stands (omega arith) (omega arith) in
+    let here = from_block card bs c.args.head c.args.last (bytes_of c.args.size) (c.args.place + n) (e - n) i c.in-Some.location.byte shaped c.requires.fit c.requires.size_value f at.stands (omega arith) (omega arith) in
     let is = same_answer _ _ (c.in_ok-block.ensures bs f here.before) in
     absurd (never_refused card bs c.args.last (c.args.place + n) i c.in-Some.location.byte c.in_ok-block.block n e c.loop-done.out room here is c.in_err-read_part.ensures.0)
 
@@ -41,7 +41,7 @@ loop-done-preserved g c =
     let room : e ≤ length c.loop-done.out = omega arith in (
       omega arith,
       λ bs f fits.
-          let here = from_block card bs c.args.head c.args.last (bytes_of c.args.size) (c.args.place + n) (e - n) i c.in-Some.location.byte shaped c.requires.0 c.requires.1 f at.stands (omega arith) (omega arith) in
+          let here = from_block card bs c.args.head c.args.last (bytes_of c.args.size) (c.args.place + n) (e - n) i c.in-Some.location.byte shaped c.requires.fit c.requires.size_value f at.stands (omega arith) (omega arith) in
           let is = same_answer _ _ (c.in_ok-block.ensures bs f here.before) in
           copied_more card bs c.args.last c.args.place i c.in-Some.location.byte c.in_ok-block.block n e c.loop-done.out c.read_part.new.out (omega arith) room here is c.in_ok-read_part.ensures (c.loop-done.invariant.1 bs f fits),
     )

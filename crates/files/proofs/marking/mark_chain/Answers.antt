@@ -17,20 +17,20 @@ pub returns-then-index-eq0 : goal.returns-then-index-eq0
 returns-then-index-eq0 g c =
     let shaped = g.met.D.ReadableDevice.shaped c.args.device.now in
     let done = c.in_ok-mark.ensures in
-    let room = good_room _ c.loop-blocks.block shaped c.requires.0 done.0 in
+    let room = good_room _ c.loop-blocks.block shaped c.requires.fit done.0 in
     λ seen m. onward_all _ c.args.last c.args.head seen c.loop-blocks.used c.mark.new.used c.loop-blocks.index c.loop-blocks.block c.loop-blocks.blocks c.if-index-eq0.true (omega arith) room done.0 done.1 done.2 (c.loop-blocks.invariant.1 seen m)
 
 pub returns-in_err-block : goal.returns-in_err-block
 returns-in_err-block g c =
     let shaped = g.met.D.ReadableDevice.shaped c.args.device.now in
     let done = c.in_ok-mark.ensures in
-    absurd (c.in_err-block.ensures (good_within _ c.loop-blocks.block 4 shaped c.requires.0 done.0 (omega arith)))
+    absurd (c.in_err-block.ensures (good_within _ c.loop-blocks.block 4 shaped c.requires.fit done.0 (omega arith)))
 
 pub loop-blocks-preserved : goal.loop-blocks-preserved
 loop-blocks-preserved g c =
     let shaped = g.met.D.ReadableDevice.shaped c.args.device.now in
     let done = c.in_ok-mark.ensures in
-    let room = good_room _ c.loop-blocks.block shaped c.requires.0 done.0 in (
+    let room = good_room _ c.loop-blocks.block shaped c.requires.fit done.0 in (
       omega arith,
       λ seen m. onward_more _ c.args.last c.args.head seen c.loop-blocks.used c.mark.new.used c.loop-blocks.index c.loop-blocks.block _ c.loop-blocks.blocks c.if-index-eq0.false c.loop-blocks.invariant.0 (omega arith) room done.0 done.1 done.2 c.in_ok-block.ensures (c.loop-blocks.invariant.1 seen m),
     )

@@ -10,7 +10,7 @@ pub returns-in_err-named : goal.returns-in_err-named
 returns-in_err-named g c =
     let shaped = g.met.D.ReadableDevice.shaped c.args.device.now in
     let end : 4 * c.loop-word.word + 4 ≤ 512 = omega (arith, header_le c.args.index, c.pointers-word-end.ensures.is) in
-    λ good. absurd (c.in_err-named.ensures (good_within _ _ (4 * c.loop-word.word + 4) shaped c.requires.0 good end))
+    λ good. absurd (c.in_err-named.ensures (good_within _ _ (4 * c.loop-word.word + 4) shaped c.requires.fit good end))
 
 pub returns-then-named-blocks : goal.returns-then-named-blocks
 returns-then-named-blocks g c =

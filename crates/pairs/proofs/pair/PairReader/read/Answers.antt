@@ -27,8 +27,8 @@ returns-in_err-second g c =
     let p = err_from_is_err_and r c.from_residual-in_err-second.ensures.1 in
     reads_fault card c.args.a c.args.b r _ c.load-2.new.self (p.1 ∙ ap Err p.2) (pair_second card c.args.a c.args.b le _ c.in_ok-first.ensures.readable c.in_err-second.ensures)
 
-pub returns-in-ok-load : goal.returns-in-ok-load
-returns-in-ok-load g c =
+pub returns-in_ok-load-in-First : goal.returns-in_ok-load-in-First
+returns-in_ok-load-in-First g c =
     let card = g.D.ReadableDevice.meaning c.args.device.now in
     let le : card.size ≤ 4096 = omega (arith, c.block_size-size.ensures) in
     let a = c.args.a in
@@ -36,7 +36,7 @@ returns-in-ok-load g c =
     let r = c.fold_at.result in
     let s = c.fold_at.new.self in
     let is = pair_by card a b le _ _ _ _ _ c.in_ok-first.ensures c.in_ok-second.ensures c.in-First.ensures in
-    let same = c.in-ok-load.ensures.content in
+    let same = c.in_ok-load-in-First.ensures.content in
     reads_as card a b a _ r s is (subst (λ (xs : List ℕ). Judges a b a (fold_items start (finished_of xs)) r s) same (c.fold_at.ensures.judged a b))
 
 pub returns-in-Second : goal.returns-in-Second
