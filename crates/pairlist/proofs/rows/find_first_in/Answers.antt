@@ -7,19 +7,19 @@ use Rattle.pairlist.specs.Rows.{row_for}
 use Rattle.pairlist.proofs.Searching.{blank, at_row}
 use Rattle.pairlist.proofs.rows.find_first_in.Goals as goal
 
-pub returns-then-is-first-of : goal.returns-then-is-first-of
-returns-then-is-first-of c =
+pub returns-then-is_first_of : goal.returns-then-is_first_of
+returns-then-is_first_of c =
     let rows = c.args.rows.now in
     let i = c.loop-at.at in
     let rest : Option ℕ = find_row_from (suc i) (drop (i + 1) (map row_for rows)) c.args.x c.args.y in
-    sym (at_row (λ q. find_row_from i q c.args.x c.args.y) rows i (omega arith) ∙ ap (λ (v : Bool). cond v (Some i) rest) (sym c.if-is-first-of.ensures)) ∙ c.loop-at.invariant
+    sym (at_row (λ q. find_row_from i q c.args.x c.args.y) rows i (omega arith) ∙ ap (λ (v : Bool). cond v (Some i) rest) (sym c.if-is_first_of.ensures)) ∙ c.loop-at.invariant
 
 pub loop-at-preserved : goal.loop-at-preserved
 loop-at-preserved c =
     let rows = c.args.rows.now in
     let i = c.loop-at.at in
     let rest : Option ℕ = find_row_from (suc i) (drop (i + 1) (map row_for rows)) c.args.x c.args.y in
-    ap (λ k. find_row_from k (drop (i + 1) (map row_for rows)) c.args.x c.args.y) (add-one i) ∙ sym (at_row (λ q. find_row_from i q c.args.x c.args.y) rows i (omega arith) ∙ ap (λ (v : Bool). cond v (Some i) rest) (sym c.if-is-first-of.ensures)) ∙ c.loop-at.invariant
+    ap (λ k. find_row_from k (drop (i + 1) (map row_for rows)) c.args.x c.args.y) (add-one i) ∙ sym (at_row (λ q. find_row_from i q c.args.x c.args.y) rows i (omega arith) ∙ ap (λ (v : Bool). cond v (Some i) rest) (sym c.if-is_first_of.ensures)) ∙ c.loop-at.invariant
 
 pub returns : goal.returns
 returns c =

@@ -6,11 +6,11 @@ use Rattle.reader.proofs.Judging.{no_directory, row_kept, directory_barred, dire
 use Rattle.reader.proofs.judge.enter_directory.Goals as goal
 use Rattle.reader.proofs.judge.enter_directory.Goals.{then-row-eq0-via-then-row-eq0, then-row-eq0-via-else-row-eq0+then-contains}
 
-pub returns-in-default : goal.returns-in-default
-returns-in-default c = λ card ps h dirs listed marks. (refl, no_directory card ps c.args.list.now h c.args.first c.args.second listed dirs c.in-default.ensures)
+pub returns-in_default : goal.returns-in_default
+returns-in_default c = λ card ps h dirs listed marks. (refl, no_directory card ps c.args.list.now h c.args.first c.args.second listed dirs c.in_default.ensures)
 
-pub returns-in-default-row : goal.returns-in-default-row
-returns-in-default-row c = λ card ps h dirs listed marks. absurd (row_kept card ps c.args.list.now h c.args.first c.args.second listed c.in-Some.place c.in-Some.ensures c.in-default-row.ensures)
+pub returns-in_default-row : goal.returns-in_default-row
+returns-in_default-row c = λ card ps h dirs listed marks. absurd (row_kept card ps c.args.list.now h c.args.first c.args.second listed c.in-Some.place c.in-Some.ensures c.in_default-row.ensures)
 
 pub returns-then-row-eq0 : goal.returns-then-row-eq0
 returns-then-row-eq0 c = λ card ps h dirs listed marks.

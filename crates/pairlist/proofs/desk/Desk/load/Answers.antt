@@ -5,18 +5,18 @@ use Rattle.volume.proofs.Lists.{same_answer}
 use Rattle.pairlist.proofs.Loading.{row_stays, row_reads}
 use Rattle.pairlist.proofs.desk.Desk.load.Goals as goal
 
-pub returns-in-default : goal.returns-in-default
-returns-in-default g c = λ ps p listed on there. row_stays _ ps c.args.list.now c.args.place p listed there c.in-default.ensures
+pub returns-in_default : goal.returns-in_default
+returns-in_default g c = λ ps p listed on there. row_stays _ ps c.args.list.now c.args.place p listed there c.in_default.ensures
 
-pub returns-in-err-read : goal.returns-in-err-read
-returns-in-err-read g c = λ ps p listed on there.
+pub returns-in_err-read : goal.returns-in_err-read
+returns-in_err-read g c = λ ps p listed on there.
     let s = g.met.D.ReadableDevice.shaped c.args.device.now in
     let is = row_reads _ ps c.args.list.now c.args.place p listed there s c.in-Some.row c.in-Some.ensures in
-    let not = c.in-err-read.ensures in
+    let not = c.in_err-read.ensures in
     let bad : ◌≡◌ {A = ℕ} 0 1 = cc in absurd (omega arith)
 
 pub returns : goal.returns
 returns g c = λ ps p listed on there.
     let s = g.met.D.ReadableDevice.shaped c.args.device.now in
     let is = row_reads _ ps c.args.list.now c.args.place p listed there s c.in-Some.row c.in-Some.ensures in
-    record { place = refl; there = there; state = ap (λ (q : Pair). q.state) (same_answer _ p (sym c.in-ok-read.ensures ∙ is)) }
+    record { place = refl; there = there; state = ap (λ (q : Pair). q.state) (same_answer _ p (sym c.in_ok-read.ensures ∙ is)) }

@@ -11,19 +11,19 @@ use Rattle.pairlist.proofs.rows.PairList.next_entry.Goals as goal
 pub loop-at-init : goal.loop-at-init
 loop-at-init c = (refl, inr (refl, omega arith))
 
-pub returns-in-err-row : goal.returns-in-err-row
-returns-in-err-row c =
+pub returns-in_err-row : goal.returns-in_err-row
+returns-in_err-row c =
     let rows = rows_in c.args.self.now in
     let within : c.loop-at.at < length rows = omega (arith, c.count-at-end.ensures) in
-    absurd (row_missing rows c.loop-at.at within c.in-err-row.ensures)
+    absurd (row_missing rows c.loop-at.at within c.in_err-row.ensures)
 
 pub returns-in-Some : goal.returns-in-Some
 returns-in-Some c =
     let h = hiding_for c.args.hidden in
     let rows = rows_in c.args.self.now in
     let k = c.loop-at.at in
-    let r = row_for c.in-ok-row.row in
-    let there = c.in-ok-row.ensures in
+    let r = row_for c.in_ok-row.row in
+    let there = c.in_ok-row.ensures in
     let found = c.in-Some.ensures in
     record {
       row = r;
@@ -37,15 +37,15 @@ pub returns-then-not-row : goal.returns-then-not-row
 returns-then-not-row c =
     let h = hiding_for c.args.hidden in
     let rows = rows_in c.args.self.now in
-    let r = row_for c.in-ok-row.row in
-    sym c.loop-at.invariant.0 ∙ pair_done h rows c.loop-at.at r c.in-ok-row.ensures c.loop-at.id false (not-true r.hard c.if-not-row.true) c.in-default.ensures
+    let r = row_for c.in_ok-row.row in
+    sym c.loop-at.invariant.0 ∙ pair_done h rows c.loop-at.at r c.in_ok-row.ensures c.loop-at.id false (not-true r.hard c.if-not-row.true) c.in_default.ensures
 
 pub loop-at-preserved : goal.loop-at-preserved
 loop-at-preserved c =
     let h = hiding_for c.args.hidden in
     let rows = rows_in c.args.self.now in
-    let r = row_for c.in-ok-row.row in (
-      sym (pair_done h rows c.loop-at.at r c.in-ok-row.ensures c.loop-at.id true (not-false r.hard c.if-not-row.false) c.in-default.ensures) ∙ c.loop-at.invariant.0,
+    let r = row_for c.in_ok-row.row in (
+      sym (pair_done h rows c.loop-at.at r c.in_ok-row.ensures c.loop-at.id true (not-false r.hard c.if-not-row.false) c.in_default.ensures) ∙ c.loop-at.invariant.0,
       inl (elim c.loop-at.invariant.1 [ inl q ↦ omega arith | inr q ↦ omega (arith, q.0) ]),
     )
 

@@ -7,4 +7,4 @@ front : (xs ys zs : List ℕ) → xs ≡ ys → take (length ys) (xs ++ zs) ≡ 
 front xs ys zs e = ap (λ us. take (length ys) (us ++ zs)) e ∙ take_at ys zs (length ys) refl
 
 pub returns : goal.returns
-returns c = ap Some (front c.copy-from-slice.new.self c.args.name.now _ c.copy-from-slice.ensures.after)
+returns c = ap Some (front c.copy_from_slice.new.self c.args.name.now _ c.copy_from_slice.ensures.after)
