@@ -1,4 +1,6 @@
 // A set of the blocks of a card, one bit for each block.
+#![tactic(auto)]
+
 ghost use Rattle.std.specs.Prelude.{◌≡◌, ℕ, false};
 ghost use Rattle.blockset.specs.Holds.{capacity, holds, counted, Inserted};
 

@@ -1,5 +1,5 @@
 -- The bytes of an empty card's root block, as the commit writer leaves them in a buffer of just their length.
-use Rattle.std.proofs.Common.{◌≡◌, ℕ, ◌+◌, ◌-◌, ◌≤◌, List, [], length, take, replicate, Some, None, Ok, Err, Option, Result, sym, refl, ap, ◌∙◌, arith}
+use Rattle.std.proofs.Common.{◌≡◌, ℕ, ◌+◌, ◌-◌, List, [], length, replicate, Some, None, Ok, Err, Option, Result, sym, refl, ap, ◌∙◌, arith}
 use Rattle.std.proofs.lemmas.List.{take_all}
 use Rattle.metalog.specs.Commit.{body, end_bytes, encode}
 use Rattle.metalog.specs.Laws.{first_bytes}

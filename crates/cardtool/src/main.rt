@@ -1,5 +1,7 @@
 // The tool for card images: one command from the arguments or, with none, one command a line from standard input.
 // What the commands do is in the other files; here is who runs them, and where an error goes.
+#![tactic(auto)]
+
 mod dump;
 mod files;
 mod maker;

@@ -1,4 +1,6 @@
 // The blocks and the bytes of a file: a check of its blocks, and reads from any place of it.
+#![tactic(auto)]
+
 mod card;
 mod checking;
 mod copying;

@@ -1,5 +1,7 @@
 // What a flash part is: the card that a device means, what it answers to each request, and what it leaves.
 // A board engineer implements the two traits; everything above knows a device only by them.
+#![tactic(auto)]
+
 ghost use Rattle.std.specs.Prelude.{◌≡◌, List, length};
 ghost use Rattle.flash.specs.Card.{Card, Shaped, is_good};
 ghost use Rattle.flash.specs.Write.{number_of, program, erase};

@@ -1,5 +1,7 @@
 // Says of each block of standard input, one a line in hex, what its log is: one line for each, in the form that the script
 // tools/log_vectors.py describes. The script writes the blocks and, by a reading of its own, the lines that are expected.
+#![tactic(auto)]
+
 mod lines;
 mod report;
 

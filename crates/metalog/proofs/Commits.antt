@@ -1,15 +1,15 @@
 -- A whole commit is read as itself, and the first bytes of one, with 0xff behind them, as nothing or as the whole.
-use Rattle.std.proofs.Common.{◌≡◌, ℕ, zero, suc, ◌+◌, ◌-◌, ◌*◌, ◌/◌, ◌%◌, ◌^◌, ◌<◌, ◌≤◌, Bool, true, false, cond, ◌⊎◌, List, [], ◌∷◌, ◌++◌, length, get_or, take, drop, replicate, Some, sym, refl, ap, ◌∙◌, subst, inl, inr, ⊎_elim, append_assoc, append-nil, suc-add, zero-add, arith, length-append}
+use Rattle.std.proofs.Common.{◌≡◌, ℕ, zero, suc, ◌+◌, ◌-◌, ◌*◌, ◌/◌, ◌%◌, ◌^◌, ◌<◌, ◌≤◌, List, [], ◌∷◌, ◌++◌, length, get_or, take, drop, replicate, Some, sym, refl, ap, ◌∙◌, inl, inr, ⊎_elim, append_assoc, arith, length-append}
 use lib.Bits.{bit_xor, xor_lt, xor_shr}
 use Rattle.std.specs.List.{AllByRecursion as All}
 use Rattle.std.proofs.lemmas.List.{length-take, length-drop, length-replicate}
 use Rattle.std.proofs.lemmas.Bool.{cases_lt}
 use Rattle.metalog.specs.Crc.{crc_of}
 use Rattle.metalog.specs.Tag.{type_of, length_of, ends_commit, be32, be4, le4}
-use Rattle.metalog.specs.Log.{Entry, Cursor, at, past, seed, tag_at}
+use Rattle.metalog.specs.Log.{at, past, seed, tag_at}
 use Rattle.metalog.specs.Commit.{Piece, Sound, tag_of, body, last_of, ending, entries}
 use Rattle.metalog.proofs.Words.{crc_append, be32_left, be32_be4, twice}
-use Rattle.metalog.proofs.Views.{found, Found}
+use Rattle.metalog.proofs.Views.{found}
 use Rattle.metalog.proofs.Quiet.{Quiet, Single, AtMost, quiet_held, single_held, single_ended, quiet_behind, LastTag, quiet_plain, last_tag}
 use Rattle.metalog.proofs.Pieces.{read_as, tag_valid, tag_type, tag_length, tag_plain, top_plain, left_is, erased_past, take_past, piece_step, ending_length, closing_at, close_step}
 

@@ -1,5 +1,5 @@
 -- The checksum's steps are linear over xor: so of a number's bits the high ones shift through, and the low ones go by a table.
-use Rattle.std.proofs.Common.{◌≡◌, ℕ, zero, suc, ◌+◌, ◌*◌, ◌/◌, ◌%◌, ◌^◌, ◌<◌, sym, refl, ap, ◌∙◌, one-mul, zero-mul, mul-one, arith}
+use Rattle.std.proofs.Common.{◌≡◌, ℕ, zero, suc, ◌*◌, ◌/◌, ◌%◌, ◌^◌, ◌<◌, sym, refl, ap, ◌∙◌, zero-mul, mul-one, arith}
 use lib.Bits.{bit_xor, xor_assoc, xor_comm, xor_self, xor_shr, xor_mod, xor_shifted, xor_zero_r, shifted_half, shifted_even}
 use Rattle.std.proofs.lemmas.Nat.{shr_split, mod_below, pow_pos}
 use Rattle.metalog.specs.Crc.{step, steps}

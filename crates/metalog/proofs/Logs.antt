@@ -1,8 +1,8 @@
 -- A log is empty exactly where it has no finished commit.
-use Rattle.std.proofs.Common.{◌≡◌, ℕ, ◌<◌, ltb, List, [], ◌∷◌, length, take, None, refl, ap, ◌∙◌, arith}
+use Rattle.std.proofs.Common.{◌≡◌, ℕ, ◌<◌, ltb, List, [], ◌∷◌, length, take, refl, ap, arith}
 use Rattle.std.proofs.lemmas.Bool.{cond-true, lt-ltb}
 use Rattle.metalog.specs.Crc.{crc_of}
-use Rattle.metalog.specs.Log.{Entry, Log, Cursor, at, nowhere, step, items, start, items_of, commits_of, log_from, empty_log, first_prior, seed}
+use Rattle.metalog.specs.Log.{Entry, at, nowhere, step, start, items_of, log_from, empty_log, first_prior, seed}
 use Rattle.metalog.proofs.Turns.{items_none}
 
 pub log_some : (revision : ℕ) (xs : List (List Entry)) → 0 < length xs → log_from revision xs ≡ record { revision = revision; commits = xs }

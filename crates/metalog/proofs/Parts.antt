@@ -1,18 +1,17 @@
 -- The entries of a commit, one after the other, and its end behind them: together they are its encoding.
-use Rattle.std.proofs.Common.{◌≡◌, ℕ, zero, suc, ◌+◌, ◌-◌, ◌<◌, ◌≤◌, Bool, true, false, cond, leb, ◌⊎◌, List, [], ◌∷◌, ◌++◌, map, length, get_or, take, drop, Some, None, Ok, Err, Option, Result, sym, refl, ap, ◌∙◌, subst, inl, inr, ⊎_elim, append_assoc, append-nil, arith, length-append, take-append-drop}
+use Rattle.std.proofs.Common.{◌≡◌, ℕ, suc, ◌+◌, ◌<◌, ◌≤◌, Bool, true, false, cond, leb, List, [], ◌∷◌, ◌++◌, map, length, get_or, take, drop, Some, None, Ok, Err, Option, Result, sym, refl, ap, ◌∙◌, subst, ⊎_elim, append_assoc, append-nil, arith, length-append, take-append-drop}
 use lib.Bits.{bit_xor}
 use Rattle.std.specs.List.{AllByRecursion as All}
 use Rattle.std.proofs.lemmas.List.{take_more, drop_more, take_at, take_all, drop_all, length-take-le, length-replicate, length-map, get_or-map, nil_from_length}
 use Rattle.std.proofs.ByRecursion.{All-append}
-use Rattle.std.proofs.lemmas.Bool.{cond-true, cond-false, leb-true, le-leb, lt-leb, cases_lt}
+use Rattle.std.proofs.lemmas.Bool.{leb-true, le-leb, lt-leb, cases_lt}
 use Rattle.metalog.specs.declared.writer.Part.{Part}
 use Rattle.metalog.specs.declared.writer.Unwritable.{Unwritable}
 use Rattle.metalog.specs.declared.writer.Unwritable.TheVariants.{NoRoom}
 use Rattle.metalog.specs.Tag.{be4, le4}
 use Rattle.metalog.specs.Log.{first_prior}
-use Rattle.metalog.specs.Laws.{first_bytes}
-use Rattle.metalog.specs.Commit.{Piece, Sound, tag_of, body, last_of, pad_of, end_with, end_bytes, encode}
-use Rattle.metalog.specs.Writer.{Put, Begun, piece, piece_of, put_refusal, end_refusal, or_else, write_refusal, Puts, Ends, Partly, PutsAll, Concludes, Writes, WritesFirst}
+use Rattle.metalog.specs.Commit.{Piece, Sound, tag_of, body, last_of, pad_of, end_bytes, encode}
+use Rattle.metalog.specs.Writer.{Put, Begun, piece_of, put_refusal, end_refusal, or_else, write_refusal, Puts, Partly, PutsAll, Concludes, Writes, WritesFirst}
 use Rattle.metalog.proofs.Puts.{none, then, moved}
 
 -- ---- entries behind entries

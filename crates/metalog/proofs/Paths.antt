@@ -1,11 +1,11 @@
 -- A reading as a path from cursor to cursor: how far it goes, what it gives, and that a block with the same front has it too.
-use Rattle.std.proofs.Common.{◌≡◌, ℕ, zero, suc, ◌+◌, ◌-◌, ◌*◌, ◌%◌, ◌^◌, ◌<◌, ◌≤◌, ◌⊎◌, List, [], ◌∷◌, ◌++◌, length, Some, None, Option, sym, refl, ap, ◌∙◌, subst, inl, inr, append_assoc, append-nil, suc-add, zero-add, arith}
+use Rattle.std.proofs.Common.{◌≡◌, ℕ, zero, suc, ◌+◌, ◌*◌, ◌%◌, ◌^◌, ◌<◌, ◌≤◌, ◌⊎◌, List, [], ◌∷◌, ◌++◌, length, Some, None, Option, sym, refl, ap, ◌∙◌, subst, inl, inr, suc-add, zero-add, arith}
 use Rattle.std.proofs.lemmas.Bool.{cond_both}
 use Rattle.metalog.specs.Crc.{crc_of}
 use Rattle.metalog.specs.Tag.{type_of, length_of, ends_commit, next_prior}
 use Rattle.metalog.specs.Log.{Entry, Item, held, ended, Cursor, at, nowhere, Step, End, part, past, seed, halt, holding, entry_at, end_at, step, items, commits_of, end_from}
 use Rattle.metalog.proofs.Turns.{items_some, items_none}
-use Rattle.metalog.proofs.Views.{View, stops, holds, ends, view, closed, found, Found, step_holds, step_ends, Same, same_tag, same_closes, same_holding}
+use Rattle.metalog.proofs.Views.{View, stops, holds, ends, view, closed, found, step_holds, step_ends, Same, same_tag, same_closes, same_holding}
 
 -- reading from one cursor gives the items and comes to the other cursor
 abbrev pub Path : List ℕ → Cursor → List Item → Cursor → Type 0

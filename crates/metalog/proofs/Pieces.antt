@@ -1,17 +1,14 @@
 -- Reading what a commit's encoding holds: one piece, all pieces, a whole commit, and the first bytes of one.
-use Rattle.std.proofs.Common.{◌≡◌, ℕ, zero, suc, ◌+◌, ◌-◌, ◌*◌, ◌/◌, ◌%◌, ◌^◌, ◌<◌, ◌≤◌, Bool, true, false, cond, eqb, leb, ◌⊎◌, List, [], ◌∷◌, ◌++◌, length, get_or, take, drop, replicate, Some, None, Option, sym, refl, ap, ◌∙◌, subst, inl, inr, ⊎_elim, append_assoc, append-nil, add-zero, add_assoc, suc-add, zero-add, arith, lit<, length-append}
-use lib.Bits.{bit_xor, xor_lt, xor_shr, xor_zero_r}
-use Rattle.std.specs.List.{AllByRecursion as All}
-use Rattle.std.proofs.lemmas.List.{length-take, length-drop, length-replicate, drop-drop, drop_at, take_at, drop-replicate, get_or-drop}
-use Rattle.std.proofs.ByRecursion.{All-append}
-use Rattle.std.proofs.lemmas.Bool.{cond-true, cond-false, le-leb, eq-eqb, ne_eqb, cases_lt}
+use Rattle.std.proofs.Common.{◌≡◌, ℕ, ◌+◌, ◌-◌, ◌*◌, ◌/◌, ◌%◌, ◌^◌, ◌<◌, ◌≤◌, true, false, cond, eqb, leb, List, [], ◌∷◌, ◌++◌, length, take, drop, replicate, Some, sym, refl, ap, ◌∙◌, suc-add, zero-add, arith, length-append}
+use lib.Bits.{bit_xor}
+use Rattle.std.proofs.lemmas.List.{drop-drop, drop_at, take_at, drop-replicate}
+use Rattle.std.proofs.lemmas.Bool.{cond-true, cond-false, le-leb, eq-eqb, ne_eqb}
 use Rattle.metalog.specs.Crc.{crc_of}
-use Rattle.metalog.specs.Tag.{type_of, id_of, length_of, ends_commit, next_prior, be32, le32, be4, le4}
-use Rattle.metalog.specs.Log.{Entry, End, Item, held, ended, Cursor, at, Step, part, past, seed, halt, holding, tag_at, entry_at, closes, step}
-use Rattle.metalog.specs.Commit.{Piece, Sound, tag_of, body, last_of, ending, entries}
-use Rattle.metalog.proofs.Words.{crc_append, crc_lt, be32_left, le32_left, be32_be4, le32_le4, be4_small, twice, tag_read}
-use Rattle.metalog.proofs.Views.{closed, found, Found, step_holds, step_ends}
-use Rattle.metalog.proofs.Quiet.{Quiet, Single, AtMost, quiet_held, single_held, single_ended, quiet_behind, quiet_erased, calm_valid, LastTag, quiet_plain, last_tag}
+use Rattle.metalog.specs.Tag.{type_of, id_of, length_of, ends_commit, next_prior, le32, be4, le4}
+use Rattle.metalog.specs.Log.{Entry, End, held, ended, at, part, past, seed, tag_at, closes, step}
+use Rattle.metalog.specs.Commit.{Piece, Sound, tag_of, ending}
+use Rattle.metalog.proofs.Words.{le32_left, le32_le4, tag_read}
+use Rattle.metalog.proofs.Views.{step_holds, step_ends}
 
 -- ---- the tag of a piece
 

@@ -1,14 +1,14 @@
 -- Cursors from which no commit is finished any more, or exactly one.
-use Rattle.std.proofs.Common.{◌≡◌, ℕ, zero, suc, ◌+◌, ◌-◌, ◌*◌, ◌/◌, ◌%◌, ◌^◌, ◌<◌, ◌≤◌, Bool, true, false, cond, eqb, ◌⊎◌, List, [], ◌∷◌, ◌++◌, length, drop, replicate, Some, None, Option, sym, refl, ap, ◌∙◌, subst, inl, inr, append_assoc, append-nil, add-zero, arith}
+use Rattle.std.proofs.Common.{◌≡◌, ℕ, zero, suc, ◌+◌, ◌-◌, ◌*◌, ◌/◌, ◌%◌, ◌^◌, ◌<◌, ◌≤◌, Bool, true, false, cond, eqb, ◌⊎◌, List, [], ◌∷◌, ◌++◌, length, drop, replicate, Some, sym, refl, ap, ◌∙◌, subst, inl, inr, append_assoc, append-nil, arith}
 use lib.Bits.{bit_xor, xor_shr, xor_mod}
 use Rattle.std.proofs.lemmas.List.{length-drop, length-replicate, drop-drop, drop-replicate}
-use Rattle.std.proofs.lemmas.Bool.{cond-true, cond-false, eqb-true, cases_Bool}
+use Rattle.std.proofs.lemmas.Bool.{cond-true, cond-false, eqb-true}
 use Rattle.metalog.specs.Crc.{crc_of}
-use Rattle.metalog.specs.Tag.{type_of, length_of, ends_commit, next_prior, be32}
-use Rattle.metalog.specs.Log.{Entry, End, Item, held, ended, Cursor, at, nowhere, Step, part, past, seed, halt, holding, tag_at, entry_at, end_at, step, items, commits_of}
+use Rattle.metalog.specs.Tag.{type_of, length_of, ends_commit, next_prior}
+use Rattle.metalog.specs.Log.{Entry, End, Item, held, ended, Cursor, at, Step, part, past, seed, halt, holding, tag_at, entry_at, end_at, step, items, commits_of}
 use Rattle.metalog.proofs.Turns.{items_some, items_none}
 use Rattle.metalog.proofs.Words.{erased_word, erased_tag, high}
-use Rattle.metalog.proofs.Views.{View, stops, holds, ends, view, closed, found, Found, step_none}
+use Rattle.metalog.proofs.Views.{View, stops, holds, ends, view, found, step_none}
 
 -- from here on no commit is finished
 pub record Quiet (b : List ℕ) (c : Cursor) : Type 0 where

@@ -1,18 +1,18 @@
 -- The laws of writing and reading: what is written is read again, whole or not at all.
-use Rattle.std.proofs.Common.{◌≡◌, ℕ, zero, suc, ◌+◌, ◌-◌, ◌*◌, ◌/◌, ◌%◌, ◌^◌, ◌<◌, ◌≤◌, Bool, true, false, cond, ltb, ◌⊎◌, List, [], ◌∷◌, ◌++◌, length, get_or, take, drop, replicate, Some, sym, refl, ap, ◌∙◌, subst, inl, inr, ⊎_elim, append_assoc, append-nil, add-zero, arith, lit<, length-append, take-append-drop}
-use lib.Bits.{bit_xor, xor_lt}
+use Rattle.std.proofs.Common.{◌≡◌, ℕ, zero, suc, ◌+◌, ◌-◌, ◌*◌, ◌/◌, ◌%◌, ◌^◌, ◌<◌, ◌≤◌, ltb, ◌⊎◌, List, [], ◌∷◌, ◌++◌, length, get_or, take, drop, replicate, sym, refl, ap, ◌∙◌, subst, inl, inr, ⊎_elim, append_assoc, append-nil, arith, lit<, length-append, take-append-drop}
+use lib.Bits.{bit_xor}
 use Rattle.std.specs.List.{AllByRecursion as All}
-use Rattle.std.proofs.lemmas.List.{length-take, length-take-le, length-drop, length-replicate, drop_at, take_at, take-append-le, take-take, get_or-take, get_or-replicate}
+use Rattle.std.proofs.lemmas.List.{length-take, length-take-le, length-replicate, drop_at, take_at, take-take, get_or-take, get_or-replicate}
 use Rattle.std.proofs.ByRecursion.{All-append}
 use Rattle.std.proofs.lemmas.Bool.{cond-false, le-ltb, cases_lt}
 use Rattle.metalog.specs.Crc.{crc_of}
-use Rattle.metalog.specs.Tag.{type_of, ends_commit, next_prior, be32, le32, be4, le4}
-use Rattle.metalog.specs.Log.{Entry, Item, Log, Cursor, at, nowhere, End, past, seed, first_prior, tag_at, holding, entry_at, part, step, items, items_of, start, commits_of, log_from, log_of, empty_log, end_of, end_from, no_end}
-use Rattle.metalog.specs.Commit.{Piece, Sound, tag_of, body, last_of, ending, pad_of, end_with, end_bytes, encode, entries}
-use Rattle.metalog.specs.Laws.{erased_behind, first_bytes, FirstReads, FirstTorn, extended, Appendable, appended, next_bytes, next_log, AppendReads, AppendTorn, HalfErased}
+use Rattle.metalog.specs.Tag.{ends_commit, be32, le32, be4, le4}
+use Rattle.metalog.specs.Log.{Entry, Item, Log, Cursor, at, nowhere, End, seed, first_prior, holding, entry_at, part, step, items, items_of, start, commits_of, log_from, log_of, empty_log, end_of, no_end}
+use Rattle.metalog.specs.Commit.{Piece, Sound, tag_of, body, last_of, ending, pad_of, end_bytes, encode, entries}
+use Rattle.metalog.specs.Laws.{erased_behind, first_bytes, FirstReads, FirstTorn, extended, Appendable, appended, next_bytes, AppendReads, AppendTorn, HalfErased}
 use Rattle.metalog.proofs.Words.{crc_append, crc_lt, be4_small, by_bytes, flip}
 use Rattle.metalog.proofs.Logs.{log_some, log_none, log_commits, short_block}
-use Rattle.metalog.proofs.Views.{View, stops, holds, ends, view, found, Found, Same, same_le32}
+use Rattle.metalog.proofs.Views.{View, stops, holds, ends, view, found, Same, same_le32}
 use Rattle.metalog.proofs.Paths.{Path, path_items, path_far, path_inside, path_same, unfinished, commits_join, Unfinished, Finished, tail}
 use Rattle.metalog.proofs.Quiet.{Quiet, Single, AtMost, Calm, quiet_halt, quiet_held, quiet_erased, contrary}
 use Rattle.metalog.proofs.Pieces.{erased_past}

@@ -1,5 +1,5 @@
 -- What one turn of a loop over a `LogReader` keeps: what is still to be read makes the whole.
-use Rattle.std.proofs.Common.{◌≡◌, ℕ, zero, suc, ◌+◌, ◌-◌, ◌<◌, ◌≤◌, List, [], ◌∷◌, ◌++◌, length, Some, None, Option, sym, refl, ap, ◌∙◌, subst, arith}
+use Rattle.std.proofs.Common.{◌≡◌, ℕ, zero, suc, ◌+◌, ◌-◌, ◌≤◌, List, [], ◌∷◌, ◌++◌, length, Some, None, sym, refl, ap, ◌∙◌, arith}
 use Rattle.metalog.specs.Log.{Entry, Item, held, ended, Cursor, End, step, before, items, items_of, commits_of, end_from, end_of}
 
 pub items_some : (n : ℕ) (b : List ℕ) (c : Cursor) (x : Item) → (step b c).item ≡ Some x → items (suc n) b c ≡ x ∷ items n b (step b c).next

@@ -1,11 +1,11 @@
 -- What one step of the reading can be, and that it depends only on the bytes that it reads.
-use Rattle.std.proofs.Common.{◌≡◌, ℕ, ◌+◌, ◌-◌, ◌^◌, ◌<◌, ◌≤◌, Bool, true, false, cond, eqb, ltb, leb, List, [], length, get_or, take, drop, Some, None, Option, sym, refl, ap, ◌∙◌, subst, arith}
+use Rattle.std.proofs.Common.{◌≡◌, ℕ, ◌+◌, ◌-◌, ◌^◌, ◌<◌, ◌≤◌, Bool, true, false, cond, eqb, ltb, leb, List, length, get_or, take, drop, Some, None, Option, sym, refl, ap, ◌∙◌, subst, arith}
 use lib.Bits.{bit_xor}
 use Rattle.std.proofs.lemmas.List.{get_or-take, drop-take, take-take}
-use Rattle.std.proofs.lemmas.Bool.{cond-true, cond-false, ltb-false, leb-false, leb-true, cases_Bool}
+use Rattle.std.proofs.lemmas.Bool.{cond-true, cond-false, ltb-false, leb-false, leb-true}
 use Rattle.metalog.specs.Crc.{crc_of}
 use Rattle.metalog.specs.Tag.{length_of, ends_commit, next_prior, be32, le32}
-use Rattle.metalog.specs.Log.{Entry, Item, held, ended, Cursor, at, nowhere, Step, part, seed, tag_at, entry_at, end_at, past, closes, halt, holding, closing, step_with, step}
+use Rattle.metalog.specs.Log.{ended, at, Step, part, seed, tag_at, end_at, past, closes, halt, holding, closing, step_with, step}
 
 -- ---- the three ways of a step
 

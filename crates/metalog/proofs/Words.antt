@@ -1,10 +1,10 @@
 -- Words and tags of a block, by what is left of the block at their place.
-use Rattle.std.proofs.Common.{◌≡◌, ℕ, zero, suc, ◌+◌, ◌-◌, ◌*◌, ◌/◌, ◌%◌, ◌^◌, ◌<◌, ◌≤◌, Bool, true, false, cond, eqb, ltb, leb, List, [], ◌∷◌, ◌++◌, length, get_or, take, drop, replicate, Some, None, Option, sym, refl, ap, ◌∙◌, subst, ⊎_elim, add-zero, add_assoc, arith, lit<}
+use Rattle.std.proofs.Common.{◌≡◌, ℕ, zero, suc, ◌+◌, ◌-◌, ◌*◌, ◌/◌, ◌%◌, ◌^◌, ◌<◌, ◌≤◌, true, false, cond, ltb, leb, List, [], ◌∷◌, ◌++◌, length, drop, replicate, Some, None, Option, sym, refl, ap, ◌∙◌, ⊎_elim, add-zero, add_assoc, arith}
 use lib.Bits.{bit_xor, xor_assoc, xor_self, xor_zero_r, xor_lt, xor_shr}
 use Rattle.std.specs.List.{AllByRecursion as All}
 use Rattle.std.proofs.lemmas.Nat.{mod-pow-add}
 use Rattle.std.proofs.lemmas.List.{get_or-drop, length-drop, length-replicate}
-use Rattle.std.proofs.lemmas.Bool.{le-ltb, lt-leb, lt-ltb, le-leb, cond-false, cond-true}
+use Rattle.std.proofs.lemmas.Bool.{le-ltb, lt-leb, lt-ltb, le-leb}
 use Rattle.std.proofs.str.Laws.{order}
 use Rattle.metalog.specs.Crc.{step, steps, crc_byte, crc_of}
 use Rattle.metalog.specs.Tag.{length_of, be32, le32, be4, le4}

@@ -1,5 +1,5 @@
 -- Points of the format that were computed elsewhere, as one table.
-use Rattle.std.specs.Prelude.{◌≡◌, ℕ, true, List, [], ◌∷◌, ◌++◌, replicate, Some, bit_xor}
+use Rattle.std.specs.Prelude.{◌≡◌, true, [], ◌∷◌, replicate, Some, bit_xor}
 use Rattle.metalog.specs.Crc.{crc_of}
 use Rattle.metalog.specs.Tag.{be4}
 use Rattle.metalog.specs.Log.{tag_at, log_of, empty_log}

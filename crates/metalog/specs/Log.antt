@@ -1,7 +1,7 @@
 -- How a block's log is read: from the bytes of a block, whatever they are, to its revision and its finished commits.
 -- The reading goes tag by tag. It stops, without a fault, at the first tag that is not valid, that runs past the block
 -- with its data, or that ends a commit with a checksum that is cut off or wrong.
-use Rattle.std.specs.Prelude.{ℕ, zero, suc, ◌+◌, ◌-◌, ◌^◌, Bool, true, false, cond, List, [], ◌∷◌, ◌++◌, length, take, drop, Some, None, Option, ◌==◌, bit_xor, nat_le, nat_lt}
+use Rattle.std.specs.Prelude.{ℕ, zero, suc, ◌+◌, ◌-◌, ◌^◌, Bool, false, cond, List, [], ◌∷◌, ◌++◌, length, take, drop, Some, None, Option, ◌==◌, bit_xor, nat_le, nat_lt}
 use Rattle.metalog.specs.Crc.{crc_of}
 use Rattle.metalog.specs.Tag.{type_of, id_of, length_of, ends_commit, next_prior, be32, le32}
 

@@ -1,5 +1,5 @@
 -- What the values of the reader mean.
-use Rattle.std.specs.Prelude.{◌≡◌, ℕ, cond}
+use Rattle.std.specs.Prelude.{ℕ, cond}
 use Rattle.metalog.specs.declared.tags.Role.{Role}
 use Rattle.metalog.specs.declared.tags.Role.TheVariants.{Ends, Holds}
 use Rattle.metalog.specs.declared.tags.Tag.{Tag}

@@ -1,4 +1,6 @@
 // The log of one metadata block, as bytes: its checksum, its tags, a reader, and a writer of commits. It knows no device.
+#![tactic(auto)]
+
 mod checksum;
 mod laws;
 mod reader;

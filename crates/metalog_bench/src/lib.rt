@@ -1,5 +1,7 @@
 // What bench/log.c times against a plain C loop: the checksum and the reader of metalog, as functions that C can call.
 // Each takes a pointer and a length, and gives a number that tells whether the work was done right.
+#![tactic(auto)]
+
 ghost use Rattle.std.specs.Prelude.{◌≡◌, ◌%◌, ◌^◌, length};
 ghost use Rattle.metalog.specs.Crc.{crc_of};
 ghost use Rattle.metalog.specs.Log.{items_of, log_of};

@@ -1,5 +1,5 @@
 -- The tests that come before the list.
-use Rattle.std.proofs.Common.{◌≡◌, ℕ, Bool, true, false, cond, List, length, Ok, Err, Result, sym, ap, ◌∙◌}
+use Rattle.std.proofs.Common.{◌≡◌, ℕ, Bool, true, false, cond, List, length, Err, Result, sym, ap, ◌∙◌}
 use Rattle.flash.specs.Card.{Card, is_good}
 use Rattle.volume.specs.Check.{is_size}
 use Rattle.volume.specs.Listing.{Readable}

@@ -1,9 +1,9 @@
 -- One id more of a pair, and one pair more of a directory.
-use Rattle.std.proofs.Common.{◌≡◌, ℕ, zero, suc, ◌+◌, ◌-◌, ◌<◌, ◌≤◌, Bool, true, false, cond, List, [], ◌∷◌, ◌++◌, length, get_or, drop, Some, None, sym, refl, ap, ◌∙◌, add-one, arith}
+use Rattle.std.proofs.Common.{◌≡◌, ℕ, zero, suc, ◌+◌, ◌-◌, ◌<◌, ◌≤◌, Bool, cond, List, [], ◌∷◌, ◌++◌, length, get_or, drop, Some, None, sym, ap, ◌∙◌, add-one, arith}
 use Rattle.std.proofs.lemmas.List.{drop_more}
 use Rattle.std.proofs.lemmas.Option.{slice_get-get_or}
 use Rattle.std.specs.List.{slice_get}
-use Rattle.volume.specs.Global.{Spot, Hiding}
+use Rattle.volume.specs.Global.{Hiding}
 use Rattle.volume.specs.Check.{is_left}
 use Rattle.volume.specs.Rows.{Row, no_row}
 use Rattle.volume.specs.Spots.{spots_in, spots_from, spots_at}

@@ -1,5 +1,5 @@
 -- What the walk keeps while it goes along the list: the rows, the blocks and the global state of the pairs so far.
-use Rattle.std.proofs.Common.{◌≡◌, ℕ, suc, ◌+◌, ◌-◌, ◌<◌, ◌≤◌, Bool, true, false, cond, not, ◌&&◌, ◌||◌, eqb, ltb, List, [], ◌∷◌, ◌++◌, length, Some, None, Ok, Err, Option, sym, refl, ap, ◌∙◌, subst, arith, length-append}
+use Rattle.std.proofs.Common.{◌≡◌, ℕ, suc, ◌+◌, ◌-◌, ◌<◌, Bool, true, false, cond, not, ◌&&◌, ◌||◌, eqb, ltb, List, [], ◌∷◌, ◌++◌, length, Some, None, Ok, Err, sym, refl, ap, ◌∙◌, arith, length-append}
 use Rattle.std.proofs.lemmas.Bool.{lt-ltb}
 use Rattle.blockset.specs.Holds.{holds, Inserted}
 use Rattle.blockset.specs.declared.BlockSet.{BlockSet}
@@ -7,20 +7,18 @@ use Rattle.flash.specs.Card.{Card, Shaped}
 use Rattle.pairs.specs.Slots as slots
 use Rattle.pairs.specs.declared.entry.Moves.{Moves}
 use Rattle.volume.specs.Check.{hardly}
-use Rattle.volume.specs.Global as global
 use Rattle.volume.specs.Global.{mixed, global_of}
 use Rattle.volume.specs.Listing.{Readable}
 use Rattle.volume.specs.Marks.{Marks}
 use Rattle.volume.specs.Pair.{Pair}
-use Rattle.volume.specs.Rows.{Row, row_of, rows_of, next_dir, dir_after, first_after}
-use Rattle.volume.specs.Thread.{member, next_of}
+use Rattle.volume.specs.Rows.{row_of, rows_of, dir_after, first_after}
+use Rattle.volume.specs.Thread.{member}
 use Rattle.volume.specs.declared.fault.Fault.{Fault}
 use Rattle.volume.proofs.Lists.{pair_blocks_lem}
 use Rattle.volume.proofs.Rows.{rows_push, dir_push, first_push, after_below}
 use Rattle.pairlist.specs.Rows.{row_for, rows_in}
 use Rattle.pairlist.specs.Visits.{Fit, next_for, VisitAs, Visits, visited}
 use Rattle.pairlist.specs.Walks.{root, Ready, Walked, list_of}
-use Rattle.pairlist.specs.declared.rows.Row as code
 use Rattle.pairlist.specs.declared.rows.PairList.{PairList}
 use Rattle.pairlist.specs.declared.visit.Visit.{Visit}
 use Rattle.pairlist.proofs.Entering.{enters}

@@ -1,5 +1,5 @@
 -- What a visit of a pair comes to, by what was read.
-use Rattle.std.proofs.Common.{◌≡◌, ℕ, List, length, Some, None, Ok, Err, sym, refl, ap, ◌∙◌, subst}
+use Rattle.std.proofs.Common.{◌≡◌, ℕ, List, length, Some, None, Ok, Err, sym, ap, ◌∙◌}
 use Rattle.flash.specs.Card.{Card}
 use Rattle.pairs.specs.Pairs.{pair_at}
 use Rattle.pairs.proofs.Blocks.{pair_at_lem}

@@ -1,16 +1,16 @@
 -- The walk of the list, pair by pair: what is still to be walked makes the whole list.
-use Rattle.std.proofs.Common.{◌≡◌, ℕ, zero, suc, ◌+◌, ◌-◌, ◌*◌, ◌<◌, ◌≤◌, Bool, true, false, cond, ◌&&◌, ◌||◌, eqb, List, [], ◌∷◌, ◌++◌, length, get_or, Some, None, Ok, Err, Option, Result, sym, refl, ap, ◌∙◌, subst, inl, inr, append_assoc, arith, length-append}
+use Rattle.std.proofs.Common.{◌≡◌, ℕ, suc, ◌+◌, ◌-◌, ◌*◌, ◌<◌, ◌≤◌, Bool, true, false, cond, ◌&&◌, ◌||◌, eqb, List, [], ◌∷◌, ◌++◌, length, Some, None, Ok, Err, Option, Result, sym, refl, ap, ◌∙◌, subst, inl, inr, append_assoc, arith, length-append}
 use Rattle.std.proofs.lemmas.List.{get_or_past}
 use Rattle.std.proofs.lemmas.Bool.{or_cases, or_from, eqb-true, eq-eqb, cases_lt}
 use Rattle.flash.specs.Card.{Card, Shaped, is_good}
 use Rattle.volume.specs.Pair.{Pair, fault, read_pair}
-use Rattle.volume.specs.Thread.{Next, ends, goes, next_of, usable, member, serves, tail_fault, full_fault, first_of, pair_fault, before, behind, accepted, walked, walk, thread}
+use Rattle.volume.specs.Thread.{ends, goes, next_of, usable, member, tail_fault, full_fault, first_of, pair_fault, before, behind, accepted, walked, walk, thread}
 use Rattle.volume.specs.Check.{pair_blocks}
 use Rattle.volume.specs.Laws.{Apart}
 use Rattle.volume.specs.declared.fault.Fault.{Fault}
 use Rattle.volume.specs.declared.fault.What.{What}
 use Rattle.volume.specs.declared.fault.What.TheVariants.{TailTwice, TailBlock}
-use Rattle.volume.proofs.Lists.{pair_blocks_lem, head_member, tail_member}
+use Rattle.volume.proofs.Lists.{pair_blocks_lem}
 use Rattle.pairlist.specs.Visits.{allowed, visited_by, visited}
 use Rattle.pairlist.specs.Walks.{root}
 use Rattle.pairlist.proofs.Members.{members_few}

@@ -1,5 +1,5 @@
 -- What the rows of a list of pairs stand for.
-use Rattle.std.specs.Prelude.{ℕ, List, map, take}
+use Rattle.std.specs.Prelude.{List, map, take}
 use Rattle.volume.specs.Rows.{Row}
 use Rattle.pairlist.specs.declared.rows.Row as code
 use Rattle.pairlist.specs.declared.rows.PairList.{PairList}

@@ -1,4 +1,6 @@
 // The list of pairs of a card: the walk along the tails, and the table of rows that it leaves.
+#![tactic(auto)]
+
 mod desk;
 mod entries;
 mod rows;

@@ -1,5 +1,5 @@
 -- How many commits of what is read are finished, and what of it counts.
-use Rattle.std.proofs.Common.{◌≡◌, ℕ, suc, ◌+◌, ◌<◌, true, false, List, [], ◌∷◌, ◌++◌, length, refl, ap, arith}
+use Rattle.std.proofs.Common.{◌≡◌, ℕ, suc, ◌<◌, true, false, List, [], ◌∷◌, ◌++◌, length, refl, ap, arith}
 use Rattle.metalog.specs.Log.{Entry, Item, held, ended, commits_of}
 use Rattle.volume.specs.State.{in_front, finished}
 use Rattle.volume.specs.Pair.{is_empty}

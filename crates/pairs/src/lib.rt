@@ -1,4 +1,6 @@
 // Reads one metadata pair from a device into a table of its entries, its tail and its move data.
+#![tactic(auto)]
+
 mod apply;
 mod choice;
 mod entry;

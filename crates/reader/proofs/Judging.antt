@@ -1,6 +1,6 @@
 -- What the judgements on an entry rest on.
-use Rattle.std.proofs.Common.{◌≡◌, ℕ, ◌<◌, ◌≤◌, Bool, true, false, cond, ◌&&◌, ◌||◌, eqb, ltb, leb, ◌⊎◌, List, [], ◌∷◌, ◌++◌, length, get_or, Some, None, Ok, Err, Option, Result, sym, refl, ap, ◌∙◌, subst, inl, inr, arith}
-use Rattle.std.proofs.lemmas.Bool.{and_from, and_parts, le-leb, leb-true, lt-ltb, or_left, or_right, or_from, eq-eqb, ne_eqb}
+use Rattle.std.proofs.Common.{◌≡◌, ℕ, ◌<◌, ◌≤◌, Bool, true, false, cond, ◌&&◌, ◌||◌, eqb, leb, List, length, get_or, Some, None, Ok, Err, Option, Result, sym, refl, ap, ◌∙◌, subst, arith}
+use Rattle.std.proofs.lemmas.Bool.{and_from, and_parts, le-leb, leb-true, lt-ltb}
 use Rattle.std.specs.List.{slice_get}
 use Rattle.std.specs.Option.{option_map}
 use Rattle.blockset.specs.Holds.{holds, Inserted}
@@ -15,20 +15,19 @@ use Rattle.pairs.specs.Slots.{content_of}
 use Rattle.pairs.specs.declared.entry.Content.{Content}
 use Rattle.pairs.specs.declared.entry.Content.TheVariants.{SkipList}
 use Rattle.pairlist.proofs.Stepping.{row_there, row_missing}
-use Rattle.volume.specs.Check.{is_size, Dir, dirs_from, find_dir, name_fault, follows}
+use Rattle.volume.specs.Check.{is_size, dirs_from, find_dir, name_fault, follows}
 use Rattle.volume.specs.Files.{file_fault}
 use Rattle.volume.specs.Global.{Hiding}
 use Rattle.volume.specs.Listing.{Readable}
 use Rattle.volume.specs.Marks.{Marks}
 use Rattle.volume.specs.Pair.{Pair}
 use Rattle.volume.specs.Rows.{Row, no_row, rows_of, find_row, dir_at}
-use Rattle.volume.specs.State.{Struct, skip, SizedIn}
-use Rattle.volume.specs.Thread.{member}
-use Rattle.volume.specs.Tree.{Name, is_name, plain, dots}
+use Rattle.volume.specs.State.{skip, SizedIn}
+use Rattle.volume.specs.Tree.{Name, is_name}
 use Rattle.volume.specs.declared.fault.What.{What}
 use Rattle.volume.specs.declared.fault.What.TheVariants as what
 use Rattle.volume.proofs.Rows.{length_rows, find_dir_lem, row_found, first_within, dir_below}
-use Rattle.reader.specs.Scans.{BlocksChecked, StartsAt, barred, DirEntered}
+use Rattle.reader.specs.Scans.{BlocksChecked, barred, DirEntered}
 
 -- ---- the blocks of a file
 

@@ -6,7 +6,7 @@ use Rattle.volume.specs.Thread.{member}
 use Rattle.volume.specs.Tree.{Name, Node, directory, Entries}
 use Rattle.volume.specs.declared.fault.What.{What}
 use Rattle.volume.specs.declared.fault.What.TheVariants.{Directory}
-use Rattle.reader.specs.Outcomes.{Outcome, faulty, ends, leads, or_faulty, leads_to, outcome_in, outcome_of, played}
+use Rattle.reader.specs.Outcomes.{Outcome, faulty, leads, or_faulty, leads_to, outcome_in, outcome_of, played}
 
 module _ (c : Card) (ds : List Dir) (enter : ℕ → Met → Scan Entries) where
   or_faulty_lem : (block : ℕ) (w : Option What) (o : Outcome) (r : Scan (Name × Node)) → r ≡ played enter block o → unless block w r ≡ played enter block (or_faulty w o)

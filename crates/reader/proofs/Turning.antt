@@ -1,5 +1,5 @@
 -- The entries of a directory, one after the other: what is still to be read makes the whole directory.
-use Rattle.std.proofs.Common.{◌≡◌, ℕ, Bool, List, [], ◌∷◌, ◌++◌, Some, None, Ok, Err, Option, Result, sym, refl, ap, ◌∙◌, subst}
+use Rattle.std.proofs.Common.{◌≡◌, ℕ, Bool, List, [], ◌∷◌, ◌++◌, Some, None, Ok, Err, Option, sym, refl, ap, ◌∙◌}
 use Rattle.flash.specs.Card.{Card}
 use Rattle.volume.specs.Check.{Item, Dir, Met, Scan, then, scan_item, scan_items}
 use Rattle.volume.specs.Tree.{Name, Node, Entries, none, entry}

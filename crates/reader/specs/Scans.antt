@@ -1,29 +1,20 @@
 -- What the parts of the scan of a tree promise: the blocks of an entry, its name, the directory that it leads to.
 use Rattle.std.specs.Prelude.{◌≡◌, ℕ, Bool, true, false, ◌||◌, List, [], ◌∷◌, ◌++◌, Some, None, Ok, Err, Option, Result, ◌==◌, slice_index_or}
-use Rattle.std.specs.List.{slice_get}
-use Rattle.std.specs.Option.{option_map}
 use Rattle.blockset.specs.declared.BlockSet.{BlockSet}
 use Rattle.flash.specs.Card.{Card}
 use Rattle.metalog.specs.Log.{part}
-use Rattle.pairlist.specs.Desks.{Listed, OnDesk}
-use Rattle.pairlist.specs.declared.rows.PairList.{PairList}
-use Rattle.pairs.specs.Slots.{content_of}
-use Rattle.pairs.specs.declared.entry.Content.{Content}
-use Rattle.volume.specs.Check.{Dir, dirs_from, find_dir, Met, Scan, Fit, file_inline, file_skip, dir_pair, extra_superblock, unfit, content_fault, name_fault}
+use Rattle.volume.specs.Check.{Met, Fit, file_inline, file_skip, dir_pair, extra_superblock, unfit, content_fault, name_fault}
 use Rattle.volume.specs.Files.{file_blocks}
-use Rattle.volume.specs.Global.{Hiding}
-use Rattle.volume.specs.Listing.{Readable}
 use Rattle.volume.specs.Marks.{Marks}
 use Rattle.volume.specs.Pair.{Pair}
 use Rattle.volume.specs.Rows.{no_row, rows_of}
 use Rattle.volume.specs.State.{Struct, pair, inline, skip}
 use Rattle.volume.specs.Thread.{member}
-use Rattle.volume.specs.Tree.{Name, Entries}
-use Rattle.volume.specs.declared.fault.Fault.{Fault}
+use Rattle.volume.specs.Tree.{Name}
 use Rattle.volume.specs.declared.fault.What.{What}
 use Rattle.volume.specs.declared.fault.What.TheVariants.{Directory, Entry, SuperblockElsewhere}
 use Rattle.reader.specs.Names.{last_of}
-use Rattle.reader.specs.Outcomes.{Outcome, faulty, ends, leads, outcome_of}
+use Rattle.reader.specs.Outcomes.{Outcome, faulty, ends, leads}
 use Rattle.reader.specs.declared.judge.Fitted.{Fitted}
 use Rattle.reader.specs.declared.judge.Fitted.TheVariants as fitted
 use Rattle.reader.specs.declared.judge.Scanner.{Scanner}

@@ -1,3 +1,5 @@
 // Reads a whole card: whether it is sound, and what it holds.
+#![tactic(auto)]
+
 mod judge;
 mod last;

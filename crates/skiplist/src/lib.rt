@@ -1,6 +1,8 @@
 // Where the bytes of a file stand in its blocks, and how its blocks are reached from its last one.
 // A file is a skip list: block 0 is all content, and any other block begins with words that name blocks before it.
 // Arithmetic only: a layer above reads the blocks.
+#![tactic(auto)]
+
 mod laws;
 mod layout;
 mod size;

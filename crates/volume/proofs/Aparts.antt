@@ -1,21 +1,18 @@
 -- No block serves twice: each is met once, in the list or in a file.
-use Rattle.std.proofs.Common.{◌≡◌, ℕ, zero, suc, ◌-◌, Bool, true, false, cond, ◌&&◌, ◌||◌, eqb, List, [], ◌∷◌, ◌++◌, length, Some, None, Ok, Err, Option, Result, sym, refl, ap, ◌∙◌, subst, inl, inr, arith}
+use Rattle.std.proofs.Common.{◌≡◌, ℕ, zero, suc, ◌-◌, Bool, true, false, cond, ◌&&◌, ◌||◌, eqb, List, [], ◌∷◌, ◌++◌, Some, None, Ok, Option, Result, sym, refl, ap, ◌∙◌, subst, inl, inr, arith}
 use Rattle.std.proofs.lemmas.Bool.{both_ways, or_cases, or_parts, or_from, eqb-true, cases_Bool}
-use Rattle.flash.specs.Card.{Card, bytes, is_good}
+use Rattle.flash.specs.Card.{Card, bytes}
 use Rattle.metalog.specs.Tag.{le32}
 use Rattle.skiplist.specs.Places.{block_of}
-use Rattle.volume.specs.State as state
-use Rattle.volume.specs.State.{Slot, Struct, pair, inline, skip, State}
-use Rattle.volume.specs.Pair.{Pair, fault, read_pair}
-use Rattle.volume.specs.Thread.{Next, ends, goes, next_of, usable, serves, member, tail_fault, full_fault, first_of, pair_fault, before, behind, walked, walk, thread}
+use Rattle.volume.specs.Pair.{Pair, read_pair}
+use Rattle.volume.specs.Thread.{Next, ends, goes, next_of, usable, serves, member, tail_fault, full_fault, first_of, pair_fault, behind, walk}
 use Rattle.volume.specs.Files.{chain, checked, chain_fault, word_fault, file_blocks, file_fault}
 use Rattle.volume.specs.Check.{pair_blocks}
 use Rattle.volume.specs.Laws.{Apart}
 use Rattle.volume.specs.declared.fault.Fault.{Fault}
 use Rattle.volume.specs.declared.fault.What.{What}
 use Rattle.volume.specs.declared.fault.What.TheVariants.{TailTwice, TailBlock, BlockTwice, EntryBlock}
-use Rattle.volume.proofs.Lists.{no_answer, same_answer, Follows, follows, pair_blocks_lem, head_member, tail_member}
-use Rattle.volume.proofs.FileFrames.{member_left, member_right}
+use Rattle.volume.proofs.Lists.{no_answer, same_answer, follows, pair_blocks_lem, head_member, tail_member}
 
 -- ---- lists that are apart
 

@@ -1,17 +1,17 @@
 -- What a card holds depends only on the blocks that it uses.
-use Rattle.std.proofs.Common.{◌≡◌, ℕ, zero, suc, Bool, true, false, cond, ◌&&◌, ◌||◌, List, [], ◌∷◌, ◌++◌, length, get_or, Some, None, Ok, Err, Option, Result, sym, refl, ap, ◌∙◌, subst, arith}
-use Rattle.flash.specs.Card.{Card, bytes, is_good}
+use Rattle.std.proofs.Common.{◌≡◌, Bool, true, false, cond, ◌&&◌, List, [], ◌∷◌, length, get_or, Ok, Err, Result, sym, refl, ap, ◌∙◌, subst}
+use Rattle.flash.specs.Card.{Card, is_good}
 use Rattle.volume.specs.State.{Moves, Slot}
 use Rattle.volume.specs.Pair.{Pair, fault}
-use Rattle.volume.specs.Thread.{member, walk, thread}
+use Rattle.volume.specs.Thread.{walk, thread}
 use Rattle.volume.specs.Global.{is_root, is_superblock_name, is_inline, superblock_words, global_of, sync_of, Hiding, shows, hides, misses, wrong_bits, hiding_of}
-use Rattle.volume.specs.Tree.{Entries, directory}
+use Rattle.volume.specs.Tree.{Entries}
 use Rattle.volume.specs.Check.{Dir, dirs_from, Met, Scan, scan_dir, orphans_from, pair_blocks, Reading, settle, met_dirs, orphaned, check_tree, check_global, check_root, check_list, is_size, check}
 use Rattle.volume.specs.Laws.{Agree, Frame}
 use Rattle.volume.specs.declared.fault.Fault.{Fault}
 use Rattle.volume.specs.declared.fault.What.TheVariants as what
 use Rattle.volume.proofs.Lists.{no_answer, same_answer, Same, Shape, walk_same}
-use Rattle.volume.proofs.ScanFrames.{Framed, Grows, dir_framed}
+use Rattle.volume.proofs.ScanFrames.{dir_framed}
 
 -- ---- the tree and the orphans
 

@@ -1,10 +1,10 @@
 -- The list of pairs depends only on the blocks of its pairs.
-use Rattle.std.proofs.Common.{◌≡◌, ℕ, zero, suc, ◌-◌, Bool, true, false, cond, ◌&&◌, ◌||◌, eqb, leb, List, [], ◌∷◌, ◌++◌, length, get_or, Some, None, Ok, Err, Option, Result, sym, refl, ap, ◌∙◌, subst, arith}
+use Rattle.std.proofs.Common.{◌≡◌, ℕ, zero, suc, ◌-◌, true, false, cond, ◌&&◌, eqb, leb, List, ◌∷◌, get_or, Some, None, Ok, Err, Option, Result, sym, refl, ap, ◌∙◌, subst, arith}
 use Rattle.std.proofs.lemmas.Bool.{eq-eqb, or_left, or_right}
-use Rattle.flash.specs.Card.{Card, bytes, is_good}
-use Rattle.volume.specs.State.{State, start, Tail, Folded, state, wrong, fold_items, size_of}
-use Rattle.volume.specs.Pair.{Pair, fault, finished_of, Choice, first, second, no_commit, no_newer, choice, judged, read_at, read_by, read_pair}
-use Rattle.volume.specs.Thread.{Next, ends, goes, next_of, usable, serves, member, tail_fault, full_fault, first_of, pair_fault, before, behind, accepted, walked, walk}
+use Rattle.flash.specs.Card.{Card, bytes}
+use Rattle.volume.specs.State.{start, Folded, state, wrong, fold_items, size_of}
+use Rattle.volume.specs.Pair.{Pair, finished_of, Choice, first, second, no_commit, no_newer, choice, judged, read_by, read_pair}
+use Rattle.volume.specs.Thread.{Next, ends, goes, next_of, serves, member, tail_fault, full_fault, first_of, pair_fault, before, behind, accepted, walked, walk}
 use Rattle.volume.specs.Check.{pair_blocks}
 use Rattle.volume.specs.declared.fault.Fault.{Fault}
 use Rattle.volume.specs.declared.fault.What.{What}

@@ -1,12 +1,12 @@
 -- The tree depends only on the blocks that were met when it was read.
-use Rattle.std.proofs.Common.{◌≡◌, ℕ, zero, suc, Bool, true, false, cond, ◌&&◌, ◌||◌, eqb, List, [], ◌∷◌, ◌++◌, length, get_or, Some, None, Ok, Err, Option, Result, sym, refl, ap, ◌∙◌, subst, arith}
-use Rattle.flash.specs.Card.{Card, bytes}
+use Rattle.std.proofs.Common.{◌≡◌, ℕ, zero, suc, Bool, true, false, cond, ◌&&◌, ◌||◌, eqb, List, [], ◌∷◌, ◌++◌, get_or, Some, None, Ok, Err, Option, sym, refl, ap, ◌∙◌, subst}
+use Rattle.flash.specs.Card.{Card}
 use Rattle.volume.specs.State as state
 use Rattle.volume.specs.State.{Slot, Struct, pair, inline, skip}
-use Rattle.volume.specs.Thread.{usable, member}
+use Rattle.volume.specs.Thread.{member}
 use Rattle.volume.specs.Files.{file_blocks, file_bytes, file_fault}
 use Rattle.volume.specs.Tree.{Name, Node, file, directory, Entries, none, entry}
-use Rattle.volume.specs.Check.{Item, Dir, find_dir, items_at, Met, Scan, then, Fit, file_inline, file_skip, dir_pair, extra_superblock, unfit, fit_with, fit_of, content_fault, name_fault, refused, unless, entered, node_of, scan_item, scan_items, scan_dir}
+use Rattle.volume.specs.Check.{Item, Dir, find_dir, items_at, Met, Scan, then, Fit, file_inline, file_skip, dir_pair, extra_superblock, unfit, fit_with, fit_of, content_fault, name_fault, refused, unless, entered, node_of, scan_items, scan_dir}
 use Rattle.volume.specs.declared.fault.Fault.{Fault}
 use Rattle.volume.specs.declared.fault.What.{What}
 use Rattle.volume.specs.declared.fault.What.TheVariants as what

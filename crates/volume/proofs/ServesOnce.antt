@@ -1,5 +1,5 @@
 -- What was met stays apart while the tree is read, so that no block of a card that can be read serves twice.
-use Rattle.std.proofs.Common.{◌≡◌, ℕ, zero, suc, Bool, true, false, cond, ◌&&◌, ◌||◌, eqb, List, [], ◌∷◌, ◌++◌, length, Some, None, Ok, Err, Option, Result, sym, refl, ap, ◌∙◌, subst}
+use Rattle.std.proofs.Common.{◌≡◌, ℕ, zero, suc, Bool, true, false, cond, ◌||◌, eqb, List, [], ◌∷◌, length, Some, None, Ok, Err, Option, Result, sym, refl, subst}
 use Rattle.flash.specs.Card.{Card, is_good}
 use Rattle.volume.specs.State as state
 use Rattle.volume.specs.State.{Struct, pair, inline, skip, Moves}
@@ -8,14 +8,14 @@ use Rattle.volume.specs.Thread.{member, thread}
 use Rattle.volume.specs.Files.{file_blocks, file_fault}
 use Rattle.volume.specs.Global.{is_root, global_of, sync_of, Hiding, shows, hides, misses, wrong_bits, hiding_of}
 use Rattle.volume.specs.Tree.{Name, Node, file, directory, Entries, none, entry}
-use Rattle.volume.specs.Check.{Item, Dir, dirs_from, find_dir, items_at, Met, Scan, then, Fit, file_inline, file_skip, dir_pair, extra_superblock, unfit, fit_with, fit_of, content_fault, name_fault, refused, unless, entered, node_of, scan_items, scan_dir, orphans_from, pair_blocks, Reading, met_dirs, orphaned, check_tree, check_global, check_root, check_list, is_size, check}
+use Rattle.volume.specs.Check.{Item, Dir, dirs_from, find_dir, items_at, Met, Scan, then, fit_with, fit_of, content_fault, name_fault, refused, unless, entered, node_of, scan_items, scan_dir, orphans_from, pair_blocks, Reading, met_dirs, check_tree, check_global, check_root, check_list, is_size, check}
 use Rattle.volume.specs.Laws.{Apart, ServesOnce}
 use Rattle.volume.specs.declared.fault.Fault.{Fault}
 use Rattle.volume.specs.declared.fault.What.{What}
 use Rattle.volume.specs.declared.fault.What.TheVariants as what
 use Rattle.volume.proofs.Lists.{no_answer, same_answer}
-use Rattle.volume.proofs.ScanFrames.{went, fine, met_file}
-use Rattle.volume.proofs.Frames.{Read, read_tree, begin, tests, passes}
+use Rattle.volume.proofs.ScanFrames.{went, met_file}
+use Rattle.volume.proofs.Frames.{read_tree, begin, passes}
 use Rattle.volume.proofs.Aparts.{apart_append, walk_apart, file_apart}
 
 -- what is met from here on is apart, if what was met before is

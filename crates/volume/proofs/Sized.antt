@@ -1,5 +1,5 @@
 -- The sizes of the skip-list files in a pair's state: each is from 1 to 1048576, since a tag with another one is refused.
-use Rattle.std.proofs.Common.{◌≡◌, ℕ, zero, suc, ◌+◌, ◌-◌, ◌≤◌, Bool, true, false, cond, eqb, ltb, leb, List, [], ◌∷◌, length, get_or, take, drop, replicate, Some, None, Ok, Option, refl, subst, arith}
+use Rattle.std.proofs.Common.{◌≡◌, ℕ, zero, suc, ◌+◌, ◌-◌, Bool, true, false, cond, eqb, ltb, leb, List, [], ◌∷◌, length, get_or, take, drop, replicate, Some, None, Ok, Option, refl, subst, arith}
 use Rattle.std.specs.List.{AllByRecursion as All}
 use Rattle.std.proofs.ByRecursion.{All-append, All-set, All-take, All-drop}
 use Rattle.std.proofs.lemmas.Bool.{and_parts, leb-true}

@@ -1,11 +1,11 @@
 -- The items of a directory are those at its spots, in their order.
-use Rattle.std.proofs.Common.{◌≡◌, ℕ, zero, suc, ◌+◌, ◌-◌, ◌<◌, Bool, true, false, cond, List, [], ◌∷◌, ◌++◌, map, length, get_or, drop, sym, refl, ap, ◌∙◌, subst, arith}
-use Rattle.std.proofs.lemmas.List.{map-append, get_or-drop}
+use Rattle.std.proofs.Common.{◌≡◌, ℕ, zero, suc, ◌-◌, Bool, true, false, cond, List, [], ◌∷◌, ◌++◌, map, length, get_or, drop, sym, refl, ap, ◌∙◌, arith}
+use Rattle.std.proofs.lemmas.List.{map-append}
 use Rattle.volume.specs.State.{Slot, blank}
 use Rattle.volume.specs.Pair.{Pair}
 use Rattle.volume.specs.Global.{Spot, Hiding}
 use Rattle.volume.specs.Check.{Item, is_left, items_from, hardly}
-use Rattle.volume.specs.Rows.{Row, row_of, rows_from, rows_of, next_dir, next_first, items_on}
+use Rattle.volume.specs.Rows.{rows_from, rows_of, next_dir, next_first, items_on}
 use Rattle.volume.specs.Spots.{spots_in, spots_from, spots_at, no_pair, item_at}
 
 -- the k-th pair of the list is p, and the entries of p from the id i on are xs

@@ -1,14 +1,13 @@
 -- What a card holds, or its first fault: the size, the list pair by pair, the superblock, the global state, the tree entry
 -- by entry, and the directories that no entry names.
-use Rattle.std.specs.Prelude.{ℕ, zero, suc, Bool, true, false, cond, not, ◌&&◌, ◌||◌, List, [], ◌∷◌, ◌++◌, length, Some, None, Ok, Err, Option, Result, ◌==◌, nat_le}
+use Rattle.std.specs.Prelude.{ℕ, zero, suc, Bool, true, false, cond, ◌&&◌, ◌||◌, List, [], ◌∷◌, ◌++◌, length, Some, None, Ok, Err, Option, Result, ◌==◌, nat_le}
 use Rattle.flash.specs.Card.{Card, is_good}
 use Rattle.volume.specs.Files.{file_blocks, file_bytes, file_fault}
-use Rattle.volume.specs.Global as global
-use Rattle.volume.specs.Global.{Spot, is_spot, is_root, global_of, sync_of, same_blocks, Hiding, shows, hides, misses, wrong_bits, hiding_of}
+use Rattle.volume.specs.Global.{is_spot, is_root, global_of, sync_of, same_blocks, Hiding, shows, hides, misses, wrong_bits, hiding_of}
 use Rattle.volume.specs.Pair.{Pair, fault}
 use Rattle.volume.specs.State as state
 use Rattle.volume.specs.State.{Slot, Struct, pair, inline, skip, State, Tail, Moves}
-use Rattle.volume.specs.Thread.{Next, ends, goes, next_of, usable, member, thread}
+use Rattle.volume.specs.Thread.{ends, goes, next_of, usable, member, thread}
 use Rattle.volume.specs.Tree.{Name, before, is_name, Node, file, directory, Entries, none, entry}
 use Rattle.volume.specs.declared.fault.Fault.{Fault}
 use Rattle.volume.specs.declared.fault.What.{What}

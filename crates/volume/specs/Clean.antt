@@ -1,12 +1,11 @@
 -- Which torn writes are clean: those that no reader of the list can take for something that was never written.
-use Rattle.std.specs.Prelude.{◌≡◌, ℕ, zero, suc, Bool, true, false, cond, ◌⊎◌, List, [], ◌∷◌, ◌++◌, length, take, Some, None, Ok, Err, Option, Result}
+use Rattle.std.specs.Prelude.{◌≡◌, ℕ, zero, suc, false, ◌⊎◌, List, [], ◌∷◌, length, take, Some, None, Ok, Err, Option, Result}
 use Rattle.flash.specs.Card.{Card, bytes}
 use Rattle.flash.specs.Write.{Write, program, erase, target, intended}
 use Rattle.metalog.specs.Log.{Entry, Item, held, ended}
 use Rattle.metalog.specs.Tag.{le32}
 use Rattle.volume.specs.declared.fault.Fault.{Fault}
 use Rattle.volume.specs.declared.fault.What.{What}
-use Rattle.volume.specs.State.{State}
 use Rattle.volume.specs.Pair.{Pair, read_pair, finished_of}
 use Rattle.volume.specs.Thread.{Next, ends, goes, next_of, pair_fault, member}
 

@@ -4,7 +4,7 @@ use Rattle.flash.specs.Card.{Card}
 use Rattle.metalog.specs.Commit.{Piece}
 use Rattle.metalog.specs.Laws.{first_bytes}
 use Rattle.metalog.specs.Log.{ended}
-use Rattle.volume.specs.State.{file, superblock, Slot, inline, State, start, wrong, fold_items}
+use Rattle.volume.specs.State.{file, superblock, Slot, inline, start, wrong, fold_items}
 use Rattle.volume.specs.Paths.{path_of, blocked, find}
 use Rattle.volume.specs.Global.{superblock_name, superblock_words, shows}
 use Rattle.volume.specs.Pair.{Pair, fault}

@@ -1,8 +1,8 @@
 -- The superblock, and the global state: what the move data of all pairs say together.
-use Rattle.std.specs.Prelude.{ℕ, zero, suc, ◌+◌, ◌/◌, ◌%◌, ◌^◌, Bool, true, false, cond, not, ◌&&◌, ◌||◌, List, [], ◌∷◌, ◌++◌, length, Some, None, Option, ◌==◌, bit_xor, nat_lt}
+use Rattle.std.specs.Prelude.{ℕ, suc, ◌/◌, ◌%◌, ◌^◌, Bool, true, false, cond, ◌&&◌, ◌||◌, List, [], ◌∷◌, ◌++◌, length, Some, None, Option, ◌==◌, bit_xor, nat_lt}
 use Rattle.flash.specs.Card.{Card}
 use Rattle.metalog.specs.Tag.{le4}
-use Rattle.volume.specs.State.{Kind, file, directory, superblock, Name, Struct, pair, inline, skip, Slot, Moves, State}
+use Rattle.volume.specs.State.{file, directory, superblock, Name, Struct, pair, inline, skip, Slot, Moves}
 use Rattle.volume.specs.Pair.{Pair}
 
 -- ---- lists of bytes

@@ -1,5 +1,5 @@
 -- A pair of blocks: which of its two logs counts, and the state that it gives, or a fault of the log.
-use Rattle.std.specs.Prelude.{ℕ, Bool, true, false, cond, List, [], ◌∷◌, Ok, Err, Result}
+use Rattle.std.specs.Prelude.{ℕ, Bool, true, false, List, [], ◌∷◌, Ok, Err, Result}
 use Rattle.flash.specs.Card.{Card, bytes}
 use Rattle.metalog.specs.Log.{Item, items_of}
 use Rattle.metalog.specs.Revision.{newer}

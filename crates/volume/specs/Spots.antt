@@ -1,5 +1,5 @@
 -- The entries of a directory as spots of the list: the place of a pair, and an id in it.
-use Rattle.std.specs.Prelude.{ℕ, zero, suc, ◌-◌, Bool, true, false, cond, List, [], ◌∷◌, ◌++◌, get_or, drop, None, slice_index_or}
+use Rattle.std.specs.Prelude.{ℕ, zero, suc, ◌-◌, cond, List, [], ◌∷◌, ◌++◌, get_or, drop, slice_index_or}
 use Rattle.volume.specs.State.{blank, start}
 use Rattle.volume.specs.Pair.{Pair}
 use Rattle.volume.specs.Global.{Spot, Hiding}

@@ -1,6 +1,6 @@
 -- What a pair holds: its entries by id, its tail and its move data, and what each tag of a finished commit does to them.
-use Rattle.std.specs.Prelude.{ℕ, zero, suc, ◌+◌, ◌-◌, ◌<◌, ◌≤◌, Bool, true, false, cond, ◌&&◌, ◌||◌, List, [], ◌∷◌, ◌++◌, length, take, drop, replicate, Some, None, Option, ◌==◌, nat_le, nat_lt, slice_index_or, slice_set}
-use Rattle.metalog.specs.Log.{Entry, End, Item, held, ended}
+use Rattle.std.specs.Prelude.{ℕ, ◌+◌, ◌-◌, ◌≤◌, Bool, true, false, cond, ◌&&◌, List, [], ◌∷◌, ◌++◌, length, take, drop, replicate, Some, None, Option, ◌==◌, nat_le, nat_lt, slice_index_or, slice_set}
+use Rattle.metalog.specs.Log.{Entry, Item, held, ended}
 use Rattle.metalog.specs.Tag.{le32}
 
 -- ---- entries

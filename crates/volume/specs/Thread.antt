@@ -1,5 +1,5 @@
 -- The list of pairs, from the root along the tails, and what its tails may name.
-use Rattle.std.specs.Prelude.{ℕ, zero, suc, ◌-◌, Bool, true, false, cond, not, ◌&&◌, ◌||◌, List, [], ◌∷◌, ◌++◌, length, Some, None, Ok, Err, Option, Result, ◌==◌, nat_le}
+use Rattle.std.specs.Prelude.{ℕ, zero, suc, ◌-◌, Bool, false, cond, ◌&&◌, ◌||◌, List, [], ◌∷◌, length, Some, None, Ok, Err, Option, Result, ◌==◌, nat_le}
 use Rattle.flash.specs.Card.{Card, is_good}
 use Rattle.volume.specs.State.{State, Tail, size_of}
 use Rattle.volume.specs.Pair.{Pair, fault, read_pair}

@@ -1,4 +1,6 @@
 // What a whole card holds: pairs, the list of pairs, the global state, the tree and its files, or the first fault.
+#![tactic(auto)]
+
 mod fault;
 mod laws;
 mod names;

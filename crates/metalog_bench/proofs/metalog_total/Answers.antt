@@ -1,6 +1,6 @@
 -- The loop's first turn, each turn more, and the end, from what the reader says of its items.
 -- What `next` tells of the reader's block is carried over to the block.
-use Rattle.std.proofs.Common.{◌≡◌, length, Some, None, sym, refl, ap, ◌∙◌, subst, arith}
+use Rattle.std.proofs.Common.{◌≡◌, length, None, refl, ap, ◌∙◌, subst, arith}
 use Rattle.metalog.specs.Log.{step, items}
 use Rattle.metalog.specs.Reader.{item_of, cursor_of}
 use Rattle.metalog.proofs.Turns.{Gave}

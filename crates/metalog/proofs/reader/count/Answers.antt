@@ -2,7 +2,7 @@
 use Rattle.std.proofs.Common.{◌≡◌, [], length, Some, None, sym, ap, ◌∙◌, subst, arith}
 use Rattle.metalog.specs.Log.{Item, step, items, commits_of, end_from, no_end}
 use Rattle.metalog.specs.Reader.{item_of, cursor_of}
-use Rattle.metalog.proofs.Turns.{Sofar, Gave, after_held, after_ended, at_end}
+use Rattle.metalog.proofs.Turns.{Gave, after_held, after_ended, at_end}
 use Rattle.metalog.proofs.reader.count.Goals as goal
 use Rattle.metalog.proofs.reader.count.Goals.{In-Some}
 

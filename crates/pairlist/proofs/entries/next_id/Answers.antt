@@ -1,5 +1,5 @@
 -- One id more that is left out; or one that is not.
-use Rattle.std.proofs.Common.{◌≡◌, ◌+◌, ◌-◌, Bool, cond, ◌∷◌, sym, ap, ◌∙◌, arith}
+use Rattle.std.proofs.Common.{◌+◌, ◌-◌, Bool, cond, ◌∷◌, sym, ap, ◌∙◌}
 use Rattle.volume.specs.Spots.{spots_in}
 use Rattle.pairlist.specs.Entries.{hiding_for}
 use Rattle.pairlist.proofs.Stepping.{ids_step}

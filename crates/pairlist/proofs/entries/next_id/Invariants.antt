@@ -1,5 +1,5 @@
 -- What is left of the ids decides.
-use Rattle.std.proofs.Common.{◌≡◌, ◌-◌, ◌≤◌}
+use Rattle.std.proofs.Common.{◌≡◌, ◌-◌}
 use Rattle.volume.specs.Spots.{spots_in}
 use Rattle.pairlist.specs.Entries.{hiding_for}
 use Rattle.pairlist.proofs.entries.next_id.Given as goal

@@ -1,10 +1,10 @@
 -- One row more, that is not the one; or one that is.
-use Rattle.std.proofs.Common.{◌≡◌, ℕ, suc, ◌+◌, Bool, cond, List, map, get_or, drop, Some, Option, sym, ap, ◌∙◌, add-one, arith}
+use Rattle.std.proofs.Common.{ℕ, suc, ◌+◌, Bool, cond, map, drop, Some, Option, sym, ap, ◌∙◌, add-one, arith}
 use lib.ListN.{length-map}
 use Rattle.std.proofs.lemmas.List.{at_drop_all}
 use Rattle.volume.specs.Rows.{find_pair_from}
 use Rattle.pairlist.specs.Rows.{row_for}
-use Rattle.pairlist.proofs.Searching.{blank, at_row}
+use Rattle.pairlist.proofs.Searching.{at_row}
 use Rattle.pairlist.proofs.rows.find_pair_in.Goals as goal
 
 pub returns-then-is_same_pair : goal.returns-then-is_same_pair

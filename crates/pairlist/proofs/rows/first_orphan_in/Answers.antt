@@ -1,5 +1,5 @@
 -- One row more, that is not the one; or one that is.
-use Rattle.std.proofs.Common.{◌≡◌, ℕ, ◌+◌, Bool, cond, List, map, get_or, drop, Some, Option, sym, ap, ◌∙◌, arith}
+use Rattle.std.proofs.Common.{ℕ, ◌+◌, Bool, cond, map, get_or, drop, Some, Option, sym, ap, ◌∙◌, arith}
 use lib.ListN.{length-map}
 use Rattle.std.proofs.lemmas.List.{at_drop_all}
 use Rattle.blockset.specs.Holds.{holds}

@@ -1,5 +1,5 @@
 -- The pair could not be read; something is wrong with it; or it is what the list goes on with.
-use Rattle.std.proofs.Common.{◌≡◌, take, sym, refl, ap, ◌∙◌, arith, length-take}
+use Rattle.std.proofs.Common.{take, refl, ap, ◌∙◌, arith, length-take}
 use lib.ListN.{length-map}
 use Rattle.std.proofs.lemmas.Result.{err_from_is_err_and}
 use Rattle.pairs.specs.Slots.{slot_of}

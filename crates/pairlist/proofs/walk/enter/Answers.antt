@@ -1,5 +1,5 @@
 -- Each test that does not pass ends it, and a card that passes them all can be read.
-use Rattle.std.proofs.Common.{◌≡◌, Err, sym, ap, ◌∙◌}
+use Rattle.std.proofs.Common.{Err, sym, ap, ◌∙◌}
 use Rattle.pairlist.proofs.Entering.{told_size, stop_dark, stop_size, stop_first, stop_second}
 use Rattle.pairlist.proofs.walk.enter.Goals as goal
 

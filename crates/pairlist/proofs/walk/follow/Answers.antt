@@ -1,5 +1,5 @@
 -- One pair more; a pair with a fault; and the last one.
-use Rattle.std.proofs.Common.{◌≡◌, ◌<◌, sym, refl, ap, ◌∙◌, arith}
+use Rattle.std.proofs.Common.{arith}
 use Rattle.std.proofs.lemmas.Result.{err_from_is_err_and}
 use Rattle.pairlist.proofs.Tripping.{trip_start, trip_fit, trip_room, trip_fault, trip_end, trip_more}
 use Rattle.pairlist.proofs.walk.follow.Goals as goal

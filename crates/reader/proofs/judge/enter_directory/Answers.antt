@@ -1,5 +1,5 @@
 -- The directory is none of the list; it must not be entered; or it is entered.
-use Rattle.std.proofs.Common.{◌≡◌, true, false, ◌||◌, eqb, sym, refl, ap, ◌∙◌}
+use Rattle.std.proofs.Common.{◌≡◌, true, ◌||◌, eqb, sym, refl, ◌∙◌}
 use Rattle.std.proofs.lemmas.Bool.{or_left, or_right, or_from, eq-eqb, ne_eqb}
 use Rattle.blockset.specs.Holds.{holds}
 use Rattle.reader.proofs.Judging.{no_directory, row_kept, directory_barred, directory_entered}

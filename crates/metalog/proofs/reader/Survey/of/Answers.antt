@@ -1,7 +1,7 @@
 -- A log has its revision exactly where it has a finished commit.
-use Rattle.std.proofs.Common.{◌≡◌, ℕ, ◌<◌, List, [], length, sym, ap, ◌∙◌, inl, inr, arith}
+use Rattle.std.proofs.Common.{◌≡◌, ◌<◌, List, [], length, sym, ap, ◌∙◌, inl, inr, arith}
 use Rattle.metalog.specs.Tag.{le32}
-use Rattle.metalog.specs.Log.{Entry, Log, items_of, commits_of, log_from}
+use Rattle.metalog.specs.Log.{Entry, Log, items_of, commits_of}
 use Rattle.metalog.proofs.Logs.{log_some, log_none, log_commits, short_block}
 use Rattle.metalog.proofs.reader.Survey.of.Goals as goal
 

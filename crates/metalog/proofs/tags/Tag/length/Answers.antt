@@ -1,5 +1,4 @@
 -- A mask takes the remainder.
-use Rattle.std.proofs.Common.{◌/◌, ◌^◌}
 use Rattle.std.proofs.lemmas.Nat.{and_mask}
 use Rattle.metalog.proofs.tags.Tag.length.Goals as goal
 

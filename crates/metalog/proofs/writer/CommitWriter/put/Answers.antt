@@ -1,5 +1,5 @@
 -- An entry that fits no tag, one for which there is no room, and one that is written.
-use Rattle.std.proofs.Common.{◌≡◌, ◌++◌, length, sym, refl, ap, ◌∙◌, subst}
+use Rattle.std.proofs.Common.{◌++◌, length, sym, refl, ap}
 use lib.Bits.{bit_xor}
 use Rattle.metalog.specs.Tag.{be4}
 use Rattle.metalog.proofs.Puts.{moved}

@@ -1,5 +1,5 @@
 -- As many as the rows.
-use Rattle.std.proofs.Common.{◌≡◌, length, sym, ap, ◌∙◌}
+use Rattle.std.proofs.Common.{length, sym, ap, ◌∙◌}
 use lib.ListN.{length-map}
 use Rattle.pairlist.specs.Rows.{row_for}
 use Rattle.pairlist.proofs.rows.PairList.count.Goals as goal

@@ -1,9 +1,9 @@
 -- One pair more of the directory, without an entry of the tree; or one with the next entry; or the last one.
-use Rattle.std.proofs.Common.{◌≡◌, ◌<◌, true, false, length, sym, refl, ap, ◌∙◌, subst, inl, inr, arith}
+use Rattle.std.proofs.Common.{◌<◌, true, false, length, sym, refl, ◌∙◌, inl, inr, arith}
 use Rattle.std.proofs.lemmas.List.{at_drop_all}
 use Rattle.std.proofs.lemmas.Bool.{not-true, not-false}
 use Rattle.volume.specs.Spots.{spots_from}
-use Rattle.pairlist.specs.Entries.{hiding_for, NextEntry}
+use Rattle.pairlist.specs.Entries.{hiding_for}
 use Rattle.pairlist.specs.Rows.{row_for, rows_in}
 use Rattle.pairlist.proofs.Stepping.{row_missing, entry_here, pair_done}
 use Rattle.pairlist.proofs.rows.PairList.next_entry.Goals as goal

@@ -1,5 +1,5 @@
 -- The row at a place.
-use Rattle.std.proofs.Common.{◌≡◌, map, length, get_or, Some, sym, ap, ◌∙◌, arith}
+use Rattle.std.proofs.Common.{map, Some, sym, ap, ◌∙◌, arith}
 use lib.ListN.{length-map}
 use Rattle.std.proofs.lemmas.List.{get_or-map}
 use Rattle.std.proofs.lemmas.Option.{slice_get-get_or, slice_get_past}
