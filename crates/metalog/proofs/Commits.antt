@@ -1,7 +1,7 @@
 -- A whole commit is read as itself, and the first bytes of one, with 0xff behind them, as nothing or as the whole.
 use Rattle.std.proofs.Common.{◌≡◌, ℕ, zero, suc, ◌+◌, ◌-◌, ◌*◌, ◌/◌, ◌%◌, ◌^◌, ◌<◌, ◌≤◌, List, [], ◌∷◌, ◌++◌, length, get_or, take, drop, replicate, Some, sym, refl, ap, ◌∙◌, inl, inr, ⊎_elim, append_assoc, arith, length-append}
 use lib.Bits.{bit_xor, xor_lt, xor_shr}
-use Rattle.std.specs.List.{AllByRecursion as All}
+use Rattle.std.specs.List.{AllByRecursion}
 use Rattle.std.proofs.lemmas.List.{length-take, length-drop, length-replicate}
 use Rattle.std.proofs.lemmas.Bool.{cases_lt}
 use Rattle.metalog.specs.Crc.{crc_of}
@@ -15,7 +15,7 @@ use Rattle.metalog.proofs.Pieces.{read_as, tag_valid, tag_type, tag_length, tag_
 
 -- ---- a whole commit
 
-pub whole : (ps : List Piece) (b : List ℕ) (i prior sum pad word k : ℕ) → All Sound ps → prior < 2 ^ 32 → pad < 16 → word < 2 ^ 32
+pub whole : (ps : List Piece) (b : List ℕ) (i prior sum pad word k : ℕ) → AllByRecursion Sound ps → prior < 2 ^ 32 → pad < 16 → word < 2 ^ 32
     → word ≡ crc_of (crc_of sum (body prior ps)) (be4 (bit_xor (ending pad) (last_of prior ps)))
     → drop i b ≡ body prior ps ++ (be4 (bit_xor (ending pad) (last_of prior ps)) ++ (le4 word ++ (replicate pad 0xff ++ replicate k 0xff)))
     → Single b (at i prior sum) i (entries i ps)
@@ -100,7 +100,7 @@ torn_end b i prior sum pad (suc (suc (suc (suc m)))) k zs hp small long blank e 
     (last_front b i prior k (be4 w ++ take m zs) e
     (λ t f. let same = ap length_of (whole_tag b i prior (ending pad) t (take m zs ++ replicate k 0xff) (omega arith) hp e f) in omega (arith, same, ending_length pad small, length-take m zs)))
 
-pub torn : (ps : List Piece) (b : List ℕ) (i prior sum pad m k : ℕ) (zs : List ℕ) → All Sound ps → prior < 2 ^ 32 → pad < 16 → length zs ≡ 4 + pad → (m ≡ 0 → Quiet b (at i prior sum))
+pub torn : (ps : List Piece) (b : List ℕ) (i prior sum pad m k : ℕ) (zs : List ℕ) → AllByRecursion Sound ps → prior < 2 ^ 32 → pad < 16 → length zs ≡ 4 + pad → (m ≡ 0 → Quiet b (at i prior sum))
     → drop i b ≡ take m (body prior ps ++ (be4 (bit_xor (ending pad) (last_of prior ps)) ++ zs)) ++ replicate k 0xff → AtMost b (at i prior sum) i (entries i ps)
 unfolding body
 torn [] b i prior sum pad m k zs s hp small long blank e = torn_end b i prior sum pad m k zs hp small long blank e

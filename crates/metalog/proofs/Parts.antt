@@ -1,7 +1,7 @@
 -- The entries of a commit, one after the other, and its end behind them: together they are its encoding.
 use Rattle.std.proofs.Common.{◌≡◌, ℕ, suc, ◌+◌, ◌<◌, ◌≤◌, Bool, true, false, cond, leb, List, [], ◌∷◌, ◌++◌, map, length, get_or, take, drop, Some, None, Ok, Err, Option, Result, sym, refl, ap, ◌∙◌, subst, ⊎_elim, append_assoc, append-nil, arith, length-append, take-append-drop}
 use lib.Bits.{bit_xor}
-use Rattle.std.specs.List.{AllByRecursion as All}
+use Rattle.std.specs.List.{AllByRecursion}
 use Rattle.std.proofs.lemmas.List.{take_more, drop_more, take_at, take_all, drop_all, length-take-le, length-replicate, length-map, get_or-map, nil_from_length}
 use Rattle.std.proofs.ByRecursion.{All-append}
 use Rattle.std.proofs.lemmas.Bool.{leb-true, le-leb, lt-leb, cases_lt}
@@ -35,7 +35,7 @@ pub record Sofar (b : List ℕ) (used prior : ℕ) (ps : List Piece) (k : ℕ) (
   pub put : Put b c used (body prior (take k ps))
   pub used_is : used' ≡ used + length (body prior (take k ps))
   pub prior_is : prior' ≡ last_of prior (take k ps)
-  pub sound : All Sound (take k ps)
+  pub sound : AllByRecursion Sound (take k ps)
   pub refusal : write_refusal used (length b) ps ≡ write_refusal used' (length b) (drop k ps)
 
 pub put_none : (b : List ℕ) (used prior : ℕ) (ps : List Piece) → Sofar b used prior ps 0 b used prior
@@ -65,7 +65,7 @@ module _ (b : List ℕ) (used prior : ℕ) (ps : List Piece) (k : ℕ) (c : List
         put = moved refl (sym bytes) all;
         used_is = omega (arith, w.3, s.used_is, ap length bytes, length-append (body prior front) (be4 (bit_xor (tag_of x) p) ++ x.bytes));
         prior_is = w.4 ∙ sym (ap (last_of prior) more ∙ last_push prior front x);
-        sound = subst (All Sound) (sym more) (All-append Sound front (x ∷ []) s.sound (w.1, tt));
+        sound = subst (AllByRecursion Sound) (sym more) (All-append Sound front (x ∷ []) s.sound (w.1, tt));
         refusal = next_refusal ∙ ap (λ o. or_else o (write_refusal (u + (4 + length x.bytes)) (length b) (drop (k + 1) ps))) w.0 ∙ ap (λ n. write_refusal n (length b) (drop (k + 1) ps)) (sym w.3);
       }
 
@@ -84,7 +84,7 @@ pub put_end : {R : Type 0} (t : R) (b : List ℕ) (used prior : ℕ) (ps : List 
 put_end t b used prior ps k c u p s h =
     let all = take_all k ps h in (
       s.refusal ∙ ap (write_refusal u (length b)) (drop_all k ps h),
-      subst (All Sound) all s.sound,
+      subst (AllByRecursion Sound) all s.sound,
       moved refl (ap (body prior) all) s.put,
       s.used_is ∙ ap (λ l. used + length (body prior l)) all,
       s.prior_is ∙ ap (last_of prior) all,

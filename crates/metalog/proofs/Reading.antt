@@ -1,7 +1,7 @@
 -- The laws of writing and reading: what is written is read again, whole or not at all.
 use Rattle.std.proofs.Common.{◌≡◌, ℕ, zero, suc, ◌+◌, ◌-◌, ◌*◌, ◌/◌, ◌%◌, ◌^◌, ◌<◌, ◌≤◌, ltb, ◌⊎◌, List, [], ◌∷◌, ◌++◌, length, get_or, take, drop, replicate, sym, refl, ap, ◌∙◌, subst, inl, inr, ⊎_elim, append_assoc, append-nil, arith, lit<, length-append, take-append-drop}
 use lib.Bits.{bit_xor}
-use Rattle.std.specs.List.{AllByRecursion as All}
+use Rattle.std.specs.List.{AllByRecursion}
 use Rattle.std.proofs.lemmas.List.{length-take, length-take-le, length-replicate, drop_at, take_at, take-take, get_or-take, get_or-replicate}
 use Rattle.std.proofs.ByRecursion.{All-append}
 use Rattle.std.proofs.lemmas.Bool.{cond-false, le-ltb, cases_lt}
@@ -20,19 +20,19 @@ use Rattle.metalog.proofs.Commits.{whole, torn}
 
 -- ---- the bytes of a commit
 
-body_small : (prior : ℕ) (ps : List Piece) → All Sound ps → All (λ x. x < 256) (body prior ps)
+body_small : (prior : ℕ) (ps : List Piece) → AllByRecursion Sound ps → AllByRecursion (λ x. x < 256) (body prior ps)
 unfolding body
 body_small prior [] s = tt
 body_small prior (p ∷ ps) s = All-append (λ x. x < 256) (be4 (bit_xor (tag_of p) prior)) (p.bytes ++ body (tag_of p) ps) (be4_small (bit_xor (tag_of p) prior)) (All-append (λ x. x < 256) p.bytes (body (tag_of p) ps) s.0.small (body_small (tag_of p) ps s.1))
 
-le4_small : (w : ℕ) → All (λ x. x < 256) (le4 w)
+le4_small : (w : ℕ) → AllByRecursion (λ x. x < 256) (le4 w)
 le4_small w = (omega arith, (omega arith, (omega arith, (omega arith, tt))))
 
 le32_first : (w : ℕ) (xs : List ℕ) → w < 2 ^ 32 → le32 (le4 w ++ xs) 0 ≡ w
 le32_first w xs h = flip (w % 256) (w / 2 ^ 8 % 256 * 2 ^ 8) (w / 2 ^ 16 % 256 * 2 ^ 16) (w / 2 ^ 24 % 256 * 2 ^ 24) ∙ by_bytes w h
 
 -- A commit's bytes at i, with 0xff behind them: the commit is read, and no other.
-pub encoded : (front b : List ℕ) (i prior : ℕ) (ps : List Piece) (k : ℕ) → All (λ x. x < 256) front → All Sound ps → prior < 2 ^ 32
+pub encoded : (front b : List ℕ) (i prior : ℕ) (ps : List Piece) (k : ℕ) → AllByRecursion (λ x. x < 256) front → AllByRecursion Sound ps → prior < 2 ^ 32
     → drop i b ≡ encode front prior ps ++ replicate k 0xff → Single b (at i prior (crc_of seed front)) i (entries i ps)
 unfolding encode end_bytes
 encoded front b i prior ps k sf s hp e =
@@ -47,7 +47,7 @@ encoded front b i prior ps k sf s hp e =
     (e ∙ append_assoc bs (be4 w ++ (le4 word ++ replicate pad 0xff)) (replicate k 0xff) ∙ ap (λ l. bs ++ (be4 w ++ l)) (append_assoc (le4 word) (replicate pad 0xff) (replicate k 0xff)))
 
 -- The first m of them: the commit is read, or none.
-pub encoded_torn : (front b : List ℕ) (i prior : ℕ) (ps : List Piece) (m k : ℕ) → All Sound ps → prior < 2 ^ 32 → (m ≡ 0 → Quiet b (at i prior (crc_of seed front)))
+pub encoded_torn : (front b : List ℕ) (i prior : ℕ) (ps : List Piece) (m k : ℕ) → AllByRecursion Sound ps → prior < 2 ^ 32 → (m ≡ 0 → Quiet b (at i prior (crc_of seed front)))
     → drop i b ≡ take m (encode front prior ps) ++ replicate k 0xff → AtMost b (at i prior (crc_of seed front)) i (entries i ps)
 unfolding encode end_bytes
 encoded_torn front b i prior ps m k s hp blank e =

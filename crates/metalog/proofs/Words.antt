@@ -1,7 +1,7 @@
 -- Words and tags of a block, by what is left of the block at their place.
 use Rattle.std.proofs.Common.{◌≡◌, ℕ, zero, suc, ◌+◌, ◌-◌, ◌*◌, ◌/◌, ◌%◌, ◌^◌, ◌<◌, ◌≤◌, true, false, cond, ltb, leb, List, [], ◌∷◌, ◌++◌, length, drop, replicate, Some, None, Option, sym, refl, ap, ◌∙◌, ⊎_elim, add-zero, add_assoc, arith}
 use lib.Bits.{bit_xor, xor_assoc, xor_self, xor_zero_r, xor_lt, xor_shr}
-use Rattle.std.specs.List.{AllByRecursion as All}
+use Rattle.std.specs.List.{AllByRecursion}
 use Rattle.std.proofs.lemmas.Nat.{mod-pow-add}
 use Rattle.std.proofs.lemmas.List.{get_or-drop, length-drop, length-replicate}
 use Rattle.std.proofs.lemmas.Bool.{le-ltb, lt-leb, lt-ltb, le-leb}
@@ -25,7 +25,7 @@ unfolding steps
 steps_lt zero c h = h
 steps_lt (suc n) c h = steps_lt n (step c) (step_lt c h)
 
-pub crc_lt : (c : ℕ) (xs : List ℕ) → c < 2 ^ 32 → All (λ x. x < 256) xs → crc_of c xs < 2 ^ 32
+pub crc_lt : (c : ℕ) (xs : List ℕ) → c < 2 ^ 32 → AllByRecursion (λ x. x < 256) xs → crc_of c xs < 2 ^ 32
 unfolding crc_byte
 crc_lt c [] h a = h
 crc_lt c (x ∷ xs) h a = crc_lt (crc_byte c x) xs (steps_lt 8 (bit_xor c x) (xor_lt 32 c x h (omega (arith, a.0)))) a.1
@@ -60,7 +60,7 @@ le32_le4 v w xs h = flip (w % 256) (w / 2 ^ 8 % 256 * 2 ^ 8) (w / 2 ^ 16 % 256 *
 pub twice : (t prior : ℕ) → bit_xor (bit_xor t prior) prior ≡ t
 twice t prior = xor_assoc t prior prior ∙ ap (bit_xor t) (xor_self prior) ∙ xor_zero_r t
 
-pub be4_small : (w : ℕ) → All (λ x. x < 256) (be4 w)
+pub be4_small : (w : ℕ) → AllByRecursion (λ x. x < 256) (be4 w)
 be4_small w = (omega arith, (omega arith, (omega arith, (omega arith, tt))))
 
 -- ---- tags

@@ -1,7 +1,7 @@
 -- What the tests of the commit writer decide, and what its writes come to.
 use Rattle.std.proofs.Common.{◌≡◌, ℕ, suc, ◌+◌, ◌-◌, ◌*◌, ◌/◌, ◌%◌, ◌^◌, ◌<◌, Bool, true, false, cond, not, ◌&&◌, eqb, ltb, leb, List, [], ◌∷◌, ◌++◌, length, get_or, take, replicate, Some, None, Option, sym, refl, ap, ◌∙◌, subst, arith}
 use lib.Bits.{bit_xor}
-use Rattle.std.specs.List.{AllByRecursion as All}
+use Rattle.std.specs.List.{AllByRecursion}
 use Rattle.std.proofs.lemmas.Bool.{cond-true, cond-false, and_parts, ltb-true, eqb-false, not-true}
 use Rattle.metalog.specs.declared.writer.Unwritable.{Unwritable}
 use Rattle.metalog.specs.declared.writer.Unwritable.TheVariants.{BadTag, NoRoom}
@@ -64,7 +64,7 @@ end_put b b1 b2 b3 i prior l p q r =
     subst (λ xs. Put b b3 i xs) same all
 
 -- a slice of bytes, by what is known of each of them
-pub small : (xs : List ℕ) → ((i : ℕ) → get_or xs i 0 < 256) → All (λ x. x < 256) xs
+pub small : (xs : List ℕ) → ((i : ℕ) → get_or xs i 0 < 256) → AllByRecursion (λ x. x < 256) xs
 small [] h = tt
 small (x ∷ xs) h = (h 0, small xs (λ i. h (suc i)))
 

@@ -1,6 +1,6 @@
 -- How a commit is written: its tags, each XORed with the one before, the ending tag 0x500, the checksum, and 0xff up to a multiple of 16.
 use Rattle.std.specs.Prelude.{◌≡◌, ℕ, ◌+◌, ◌-◌, ◌*◌, ◌/◌, ◌%◌, ◌^◌, ◌<◌, List, [], ◌∷◌, ◌++◌, length, replicate, bit_xor}
-use Rattle.std.specs.List.{AllByRecursion as All}
+use Rattle.std.specs.List.{AllByRecursion}
 use Rattle.metalog.specs.Crc.{crc_of}
 use Rattle.metalog.specs.Tag.{be4, le4}
 use Rattle.metalog.specs.Log.{Entry, seed}
@@ -17,7 +17,7 @@ pub record Sound (p : Piece) : Type 0 where
   pub plain : p.kind / 16 ≡ 0x50 → ⊥
   pub id : p.id < 2 ^ 10
   pub long : length p.bytes < 2 ^ 10
-  pub small : All (λ x. x < 256) p.bytes
+  pub small : AllByRecursion (λ x. x < 256) p.bytes
 
 abbrev pub tag_of : Piece → ℕ
 tag_of p = p.kind * 2 ^ 20 + p.id * 2 ^ 10 + length p.bytes

@@ -1,6 +1,6 @@
 -- What is written is read again, whole or not at all, wherever the writing stopped.
 use Rattle.std.specs.Prelude.{◌≡◌, ℕ, ◌+◌, ◌-◌, ◌/◌, ◌^◌, ◌<◌, ◌≤◌, ◌⊎◌, List, [], ◌∷◌, ◌++◌, length, take, drop, replicate}
-use Rattle.std.specs.List.{AllByRecursion as All}
+use Rattle.std.specs.List.{AllByRecursion}
 use Rattle.metalog.specs.Tag.{le4}
 use Rattle.metalog.specs.Log.{Entry, Log, log_of, empty_log, first_prior, end_of}
 use Rattle.metalog.specs.Commit.{Piece, Sound, encode, entries}
@@ -17,12 +17,12 @@ first_bytes revision ps = le4 revision ++ encode (le4 revision) first_prior ps
 
 -- A block that is a revision, one commit and 0xff reads as that commit alone.
 abbrev pub FirstReads : Type 0
-FirstReads = (revision : ℕ) (ps : List Piece) (n : ℕ) → revision < 2 ^ 32 → All Sound ps
+FirstReads = (revision : ℕ) (ps : List Piece) (n : ℕ) → revision < 2 ^ 32 → AllByRecursion Sound ps
     → log_of (erased_behind (first_bytes revision ps) n) ≡ record { revision = revision; commits = entries 4 ps ∷ [] }
 
 -- The same, of which only the first m bytes were written: it reads as an erased block does, or as that commit alone.
 abbrev pub FirstTorn : Type 0
-FirstTorn = (revision : ℕ) (ps : List Piece) (m n : ℕ) → revision < 2 ^ 32 → All Sound ps
+FirstTorn = (revision : ℕ) (ps : List Piece) (m n : ℕ) → revision < 2 ^ 32 → AllByRecursion Sound ps
     → log_of (erased_behind (take m (first_bytes revision ps)) n) ≡ empty_log ⊎ log_of (erased_behind (take m (first_bytes revision ps)) n) ≡ record { revision = revision; commits = entries 4 ps ∷ [] }
 
 -- the log with one commit more
@@ -47,12 +47,12 @@ next_log b ps = extended (log_of b) (entries (end_of b).offset ps)
 
 -- A commit written behind a log with only 0xff behind it reads as that log extended by exactly it.
 abbrev pub AppendReads : Type 0
-AppendReads = (b : List ℕ) (ps : List Piece) → Appendable b → All Sound ps → (end_of b).offset + length (next_bytes b ps) ≤ length b
+AppendReads = (b : List ℕ) (ps : List Piece) → Appendable b → AllByRecursion Sound ps → (end_of b).offset + length (next_bytes b ps) ≤ length b
     → log_of (appended b (next_bytes b ps)) ≡ next_log b ps
 
 -- The same, of which only the first m bytes were written, any number: the log reads as before or as after.
 abbrev pub AppendTorn : Type 0
-AppendTorn = (b : List ℕ) (ps : List Piece) (m : ℕ) → Appendable b → All Sound ps → (end_of b).offset + length (next_bytes b ps) ≤ length b
+AppendTorn = (b : List ℕ) (ps : List Piece) (m : ℕ) → Appendable b → AllByRecursion Sound ps → (end_of b).offset + length (next_bytes b ps) ≤ length b
     → log_of (appended b (take m (next_bytes b ps))) ≡ log_of b ⊎ log_of (appended b (take m (next_bytes b ps))) ≡ next_log b ps
 
 -- A block whose first half is 0xff, as an erase that stopped half way leaves it, has no finished commit.

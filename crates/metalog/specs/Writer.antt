@@ -1,6 +1,6 @@
 -- What the commit writer does to its buffer.
 use Rattle.std.specs.Prelude.{◌≡◌, ℕ, ◌+◌, ◌*◌, ◌/◌, ◌^◌, Bool, cond, not, ◌&&◌, List, [], ◌∷◌, ◌++◌, length, take, drop, Some, None, Ok, Err, Option, Result, ◌==◌, bit_xor, nat_le, nat_lt}
-use Rattle.std.specs.List.{AllByRecursion as All}
+use Rattle.std.specs.List.{AllByRecursion}
 use Rattle.metalog.specs.declared.writer.Part.{Part}
 use Rattle.metalog.specs.declared.writer.Unwritable.{Unwritable}
 use Rattle.metalog.specs.declared.writer.Unwritable.TheVariants.{BadTag, NoRoom}
@@ -74,7 +74,7 @@ pub record Partly (b c : List ℕ) (i : ℕ) (xs : List ℕ) : Type 0 where
 -- The entries ps, up to the first that is refused.
 abbrev pub PutsAll : {T : Type 0} → List ℕ → ℕ → ℕ → List Piece → Result T Unwritable → List ℕ → ℕ → ℕ → Type 0
 PutsAll b used prior ps (Ok _) c used' prior' =
-    (write_refusal used (length b) ps ≡ end_refusal used' (length b)) × All Sound ps
+    (write_refusal used (length b) ps ≡ end_refusal used' (length b)) × AllByRecursion Sound ps
     × Put b c used (body prior ps) × (used' ≡ used + length (body prior ps)) × (prior' ≡ last_of prior ps)
 PutsAll b used prior ps (Err e) c used' prior' = (write_refusal used (length b) ps ≡ Some e) × Partly b c used (body prior ps)
 
@@ -86,11 +86,11 @@ Concludes b used prior (Err e) r c = (r ≡ Err e) × (c ≡ b)
 -- A commit of the entries ps behind what is used of the buffer b: the answer is its end. Where it is refused, no more than some first bytes of it are written.
 abbrev pub Writes : List ℕ → ℕ → ℕ → List Piece → Result ℕ Unwritable → List ℕ → Type 0
 Writes b used prior ps (Ok end) c =
-    (write_refusal used (length b) ps ≡ None) × All Sound ps × Put b c used (encode (take used b) prior ps) × (end ≡ used + length (encode (take used b) prior ps))
+    (write_refusal used (length b) ps ≡ None) × AllByRecursion Sound ps × Put b c used (encode (take used b) prior ps) × (end ≡ used + length (encode (take used b) prior ps))
 Writes b used prior ps (Err e) c = (write_refusal used (length b) ps ≡ Some e) × Partly b c used (encode (take used b) prior ps)
 
 -- The revision word and the first commit of a block, in the same way.
 abbrev pub WritesFirst : List ℕ → ℕ → List Piece → Result ℕ Unwritable → List ℕ → Type 0
 WritesFirst b revision ps (Ok end) c =
-    (write_refusal 4 (length b) ps ≡ None) × All Sound ps × Put b c 0 (first_bytes revision ps) × (end ≡ length (first_bytes revision ps))
+    (write_refusal 4 (length b) ps ≡ None) × AllByRecursion Sound ps × Put b c 0 (first_bytes revision ps) × (end ≡ length (first_bytes revision ps))
 WritesFirst b revision ps (Err e) c = (write_refusal 4 (length b) ps ≡ Some e) × Partly b c 0 (first_bytes revision ps)

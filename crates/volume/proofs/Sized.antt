@@ -1,6 +1,6 @@
 -- The sizes of the skip-list files in a pair's state: each is from 1 to 1048576, since a tag with another one is refused.
 use Rattle.std.proofs.Common.{◌≡◌, ℕ, zero, suc, ◌+◌, ◌-◌, Bool, true, false, cond, eqb, ltb, leb, List, [], ◌∷◌, length, get_or, take, drop, replicate, Some, None, Ok, Option, refl, subst, arith}
-use Rattle.std.specs.List.{AllByRecursion as All}
+use Rattle.std.specs.List.{AllByRecursion}
 use Rattle.std.proofs.ByRecursion.{All-append, All-set, All-take, All-drop}
 use Rattle.std.proofs.lemmas.Bool.{and_parts, leb-true}
 use Rattle.flash.specs.Card.{Card, bytes}
@@ -16,7 +16,7 @@ SlotSized x = SizedIn x.content
 
 -- the same of each entry
 abbrev pub AllSized : List Slot → Type 0
-AllSized es = All SlotSized es
+AllSized es = AllByRecursion SlotSized es
 
 -- an entry has such a size, and so has the blank one behind them all
 pub sized_at : (es : List Slot) (i : ℕ) → AllSized es → SizedIn (get_or es i blank).content
