@@ -10,6 +10,7 @@ mod numbers;
 use anyhow::anyhow;
 use std::alloc::AllocError;
 use std::env;
+use std::process::ExitCode;
 
 const HELP: &str = "cardtool: make and show littlefs cards (disk version 2.0)
 
@@ -78,12 +79,12 @@ fn run_all(rt: &HostRuntime) -> anyhow::Result<()> {
     run(rt, words.as_slice())
 }
 
-fn main(rt: HostRuntime) -> anyhow::Result<()> {
+fn main(rt: HostRuntime) -> anyhow::Result<ExitCode> {
     match run_all(&rt) {
-        Ok(()) => Ok(()),
+        Ok(()) => Ok(ExitCode::SUCCESS),
         Err(error) => {
             eprintln!(rt; "cardtool: {error}")?;
-            Err(error)
+            Ok(ExitCode::FAILURE)
         }
     }
 }

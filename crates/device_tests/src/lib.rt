@@ -1,7 +1,7 @@
-#![tactic(auto)]
-
 // Tests of the parts, of the writing of blocks and of what is written to them, as they stand to one another.
 // Expected values are from the documents or worked out by hand. There is no other code here.
+#![tactic(auto)]
+
 #[cfg(test)]
 mod asking;
 #[cfg(test)]

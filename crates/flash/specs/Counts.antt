@@ -36,8 +36,8 @@ counts false n = n
 
 -- whether a write was not refused, by its answer and the card's power before and after it
 abbrev pub not_refused : {T : Type 0} → Result T Refusal → Bool → Bool → Bool
-not_refused (Ok _) wasDark isDark = true
-not_refused (Err e) wasDark isDark = not wasDark && isDark
+not_refused (Ok _) was_dark is_dark = true
+not_refused (Err e) was_dark is_dark = not was_dark && is_dark
 
 -- the counters are those of the history: each event is counted once, one that was cut by the power like one that was done
 pub record Counted (programs erases take_ups : ℕ) (h : List Event) : Type 0 where

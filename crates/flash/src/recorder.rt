@@ -2,7 +2,6 @@
 // there were. It answers as the device that it is laid over, and its counters stop at their maximum.
 ghost use Rattle.std.specs.Prelude.{◌≡◌, []};
 ghost use Rattle.flash.specs.Counts.{Account, Counted, counts, not_refused, recorded};
-ghost use Rattle.std.proofs.Common.{rules};
 
 use super::{ReadableDevice, Refusal, WritableDevice};
 
@@ -94,7 +93,7 @@ fn tally(counter: &mut u64, counted: bool)
 impl<D: WritableDevice> ReadableDevice for Recorder<D> {
     ghost meaning = { λ s. D.ReadableDevice.meaning s.device };
 
-    ghost shaped = { Prim.search rules };
+    ghost shaped = { λ s. D.ReadableDevice.shaped s.device };
 
     fn block_size(&self) -> u32 {
         self.device.block_size()

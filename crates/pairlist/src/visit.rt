@@ -2,9 +2,9 @@
 ghost use Rattle.std.specs.Prelude.{◌≡◌, ℕ, List};
 ghost use Rattle.std.specs.Option.{option_map};
 ghost use Rattle.pairs.specs.Pairs.{state_in};
-ghost use Rattle.pairs.specs.Slots.{tail_of, moves_of as slotMoves};
+ghost use Rattle.pairs.specs.Slots.{tail_of, moves_of as slot_moves};
 ghost use Rattle.volume.specs.Check.{hardly};
-ghost use Rattle.volume.specs.Global.{moves_of as movesIn};
+ghost use Rattle.volume.specs.Global.{moves_of as moves_in};
 ghost use Rattle.volume.specs.Marks.{Marks};
 ghost use Rattle.volume.specs.Thread.{next_of, tail_fault};
 ghost use Rattle.pairlist.specs.Visits.{Fit, next_for, fault_in, Visits};
@@ -58,7 +58,7 @@ fn is_hard(tail: Option<Tail>) -> bool
 
 // The move data of a pair, 0 where it has none.
 fn moves_or_none(moves: Option<Moves>) -> Moves
-    ensures { slotMoves result ≡ movesIn (option_map slotMoves moves) }
+    ensures { slot_moves result ≡ moves_in (option_map slot_moves moves) }
 {
     match moves {
         Some(moves) => moves,

@@ -1,6 +1,6 @@
 // The walk of the whole list, from the root along the tails.
 ghost use Rattle.std.specs.Prelude.{◌≡◌, suc, ◌+◌, ◌<◌, [], ◌∷◌, ◌++◌, if◌then◌else◌};
-ghost use Rattle.pairs.specs.Slots.{moves_of as slotMoves};
+ghost use Rattle.pairs.specs.Slots.{moves_of as slot_moves};
 ghost use Rattle.volume.specs.Check.{is_size};
 ghost use Rattle.volume.specs.Global.{mixed};
 ghost use Rattle.volume.specs.Pair.{fault};
@@ -53,7 +53,7 @@ fn enter<D: ReadableDevice>(device: &D) -> Result<(), Fault>
 
 // The move data of two pairs together: word by word, XORed.
 fn mix(a: Moves, b: Moves) -> Moves
-    ensures { slotMoves result ≡ mixed (slotMoves a) (slotMoves b) }
+    ensures { slot_moves result ≡ mixed (slot_moves a) (slot_moves b) }
 {
     Moves {
         word: a.word ^ b.word,

@@ -2,7 +2,7 @@
 ghost use Rattle.std.specs.Prelude.{◌≡◌, ℕ, ◌≤◌, [], length, take};
 ghost use Rattle.metalog.specs.Log.{commits_of, items_of};
 ghost use Rattle.volume.specs.State.{start, fold_items};
-ghost use Rattle.volume.specs.Pair.{finished_of, fault as faultAt};
+ghost use Rattle.volume.specs.Pair.{finished_of, fault as fault_at};
 ghost use Rattle.pairs.specs.Pairs.{Surveys, Judges, PairReads};
 
 mod held;
@@ -26,7 +26,7 @@ const BUFFER: usize = 4096;
 
 // A fault at the start of a block.
 fn fault(what: What, block: u32) -> Fault
-    ensures { result ≡ faultAt what block 0 }
+    ensures { result ≡ fault_at what block 0 }
 {
     Fault {
         what,
