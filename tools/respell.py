@@ -5,8 +5,8 @@ usage: respell.py           once, at the top of the repository, on text that sti
        respell.py --check   fails where an old name is left
 
 A row has the old name, a tab, and the new one. Whole words turn: in a crate's .antt, .rt and .edit files, and in the
-code spans of comments and of docs/. Text in quotes and plain words of comments stay, and so do names that the compiler
-makes: the labels of goals in Answers.antt and Invariants.antt. Where a lemma would fall together with the definition
+code spans of comments and of docs/, but for docs/PORT.md, which cites the old ones. Text in quotes and plain words of
+comments stay, and so do names that the compiler makes: the labels of goals in Answers.antt and Invariants.antt. Where a lemma would fall together with the definition
 that it speaks of, the lemma has `_lem` behind its name. Two new names are old ones too (`items_at` and `all_right`,
 which lemmas had and definitions have now), so the check passes over these.
 """
@@ -32,7 +32,7 @@ def files(root):
         for folder, dirs, names in os.walk(os.path.join(root, top)):
             dirs[:] = sorted(d for d in dirs if d not in ("out", "target"))
             for name in sorted(names):
-                if os.path.splitext(name)[1] in COMMENT:
+                if os.path.splitext(name)[1] in COMMENT and (top, name) != ("docs", "PORT.md"):
                     yield os.path.join(folder, name)
 
 

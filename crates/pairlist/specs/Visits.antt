@@ -18,7 +18,7 @@ pub record Fit (c : Card) (a b : ℕ) : Type 0 where
   pub first : a < length c.blocks
   pub second : b < length c.blocks
 
--- what is wrong with a state where it stands: pairFault, by the state alone
+-- what is wrong with a state where it stands: pair_fault, by the state alone
 abbrev pub fault_in : Card → List ℕ → State → Option What
 fault_in c seen s = first_of (tail_fault c seen (next_of s.tail)) (full_fault c s)
 
