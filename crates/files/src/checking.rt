@@ -1,5 +1,5 @@
 // The check of one file: its blocks are good and serve nothing else, and their words name the blocks that they should.
-ghost use Rattle.std.specs.Prelude.{ℕ, List};
+ghost use Rattle.std.specs.Prelude.{◌≡◌, ℕ, List, replicate};
 ghost use Rattle.volume.specs.Marks.{Marks};
 ghost use Rattle.files.specs.Verdict.{FileChecked};
 
@@ -17,8 +17,10 @@ pub struct Trail {
 }
 
 impl Trail {
-    // Room that holds no blocks yet.
-    pub fn new() -> Trail {
+    // Room in which every place has the number 0, until a check of a file fills it.
+    pub fn new() -> Trail
+        ensures { result.blocks ≡ replicate 4096 0 }
+    {
         Trail { blocks: [0; 4096] }
     }
 }

@@ -132,31 +132,31 @@ room used long e = go (leb (used + (8 + pad_of used)) long) refl e
 pub concluded : {T : Type 0} (b : List ℕ) (used prior : ℕ) (ps : List Piece) (put : Result T Unwritable) (c : List ℕ) (u p : ℕ) (r : Result ℕ Unwritable) (d : List ℕ)
     → PutsAll b used prior ps put c u p → Concludes c u p put r d → Writes b used prior ps r d
 unfolding encode
-concluded b used prior ps (Ok t) c u p (Ok end) d a w =
+concluded b used prior ps (Ok t) c u p (Ok end) d all_put w =
     let bs = body prior ps in
-    let front : take u c ≡ take used b ++ bs = ap (λ n. take n c) a.3 ∙ a.2.front in
+    let front : take u c ≡ take used b ++ bs = ap (λ n. take n c) all_put.3 ∙ all_put.2.front in
     let tail = end_bytes (take used b ++ bs) (last_of prior ps) in
-    let same : end_bytes (take u c) p ≡ tail = ap (λ l. end_bytes l p) front ∙ ap (end_bytes (take used b ++ bs)) a.4 in
-    let all : Put b d used (bs ++ tail) = then a.2 (moved a.3 same w.1) in
+    let same : end_bytes (take u c) p ≡ tail = ap (λ l. end_bytes l p) front ∙ ap (end_bytes (take used b ++ bs)) all_put.4 in
+    let all : Put b d used (bs ++ tail) = then all_put.2 (moved all_put.3 same w.1) in
     let fits : u + (8 + pad_of u) ≤ length c = room u (length c) w.0 in
     let long : length (take used b ++ bs) ≡ u = ap length (sym front) ∙ length-take-le u c (omega (arith, fits)) in
     let tail_long : length tail ≡ 8 + pad_of u = end_long (take used b ++ bs) (last_of prior ps) ∙ ap (λ n. 8 + pad_of n) long in (
-      a.0 ∙ ap (end_refusal u) (sym a.2.long) ∙ w.0,
-      a.1,
+      all_put.0 ∙ ap (end_refusal u) (sym all_put.2.long) ∙ w.0,
+      all_put.1,
       all,
-      w.2 ∙ omega (arith, a.3, tail_long, length-append bs tail),
+      w.2 ∙ omega (arith, all_put.3, tail_long, length-append bs tail),
     )
-concluded b used prior ps (Ok t) c u p (Err e) d a w =
+concluded b used prior ps (Ok t) c u p (Err e) d all_put w =
     let bs = body prior ps in (
-      a.0 ∙ ap (end_refusal u) (sym a.2.long) ∙ w.0,
-      partly_front bs (end_bytes (take used b ++ bs) (last_of prior ps)) (bs ++ end_bytes (take used b ++ bs) (last_of prior ps)) refl (whole_front bs (subst (λ l. Put b l used bs) (sym w.1) a.2)),
+      all_put.0 ∙ ap (end_refusal u) (sym all_put.2.long) ∙ w.0,
+      partly_front bs (end_bytes (take used b ++ bs) (last_of prior ps)) (bs ++ end_bytes (take used b ++ bs) (last_of prior ps)) refl (whole_front bs (subst (λ l. Put b l used bs) (sym w.1) all_put.2)),
     )
-concluded b used prior ps (Err e) c u p (Ok end) d a w = let bad : ◌≡◌ {A = ℕ} 0 1 = cc in absurd (omega arith)
-concluded b used prior ps (Err e) c u p (Err f) d a w =
+concluded b used prior ps (Err e) c u p (Ok end) d all_put w = let bad : ◌≡◌ {A = ℕ} 0 1 = cc in absurd (omega arith)
+concluded b used prior ps (Err e) c u p (Err f) d all_put w =
     let bs = body prior ps in
     let same : e ≡ f = cc in (
-      a.0 ∙ ap Some same,
-      partly_front bs (end_bytes (take used b ++ bs) (last_of prior ps)) (bs ++ end_bytes (take used b ++ bs) (last_of prior ps)) refl (record { many = a.1.many; put = subst (λ l. Put b l used (take a.1.many bs)) (sym w.1) a.1.put }),
+      all_put.0 ∙ ap Some same,
+      partly_front bs (end_bytes (take used b ++ bs) (last_of prior ps)) (bs ++ end_bytes (take used b ++ bs) (last_of prior ps)) refl (record { many = all_put.1.many; put = subst (λ l. Put b l used (take all_put.1.many bs)) (sym w.1) all_put.1.put }),
     )
 
 -- ---- the revision word before the first commit

@@ -33,9 +33,13 @@ items_gave n b c d i j x enough g =
     ap (λ k. items k b c) one ∙ items_some (n - 1) b c x (sym g.item) ∙ ap (λ k. x ∷ items (n - 1) b k) (sym g.next)
 
 module _ (b : List ℕ) (c d : Cursor) (i j n : ℕ) (e : End) (s : Sofar b c i n e) where
+  -- so has the reader of a loop, with the fuel that is left
+  spent : (x : Item) → Gave b c d i j x → items s.fuel b c ≡ x ∷ items (s.fuel - 1) b d
+  spent x g = items_gave s.fuel b c d i j x s.enough g
+
   pub after_held : (x : Entry) → Gave b c d i j (held x) → Sofar b d j n e
   after_held x g =
-      let more = items_gave s.fuel b c d i j (held x) s.enough g in
+      let more = spent (held x) g in
       record {
         fuel = s.fuel - 1;
         begun = s.begun ++ x ∷ [];
@@ -47,7 +51,7 @@ module _ (b : List ℕ) (c d : Cursor) (i j n : ℕ) (e : End) (s : Sofar b c i 
 
   pub after_ended : (x : End) → Gave b c d i j (ended x) → Sofar b d j (n + 1) x
   after_ended x g =
-      let more = items_gave s.fuel b c d i j (ended x) s.enough g in
+      let more = spent (ended x) g in
       let count : n + suc (length (commits_of [] (items (s.fuel - 1) b d))) ≡ length (commits_of [] (items_of b)) = sym (ap (λ xs. n + length (commits_of s.begun xs)) more) ∙ s.count in
       record {
         fuel = s.fuel - 1;

@@ -27,8 +27,8 @@ steps_lt (suc n) c h = steps_lt n (step c) (step_lt c h)
 
 pub crc_lt : (c : ℕ) (xs : List ℕ) → c < 2 ^ 32 → AllByRecursion (λ x. x < 256) xs → crc_of c xs < 2 ^ 32
 unfolding crc_byte
-crc_lt c [] h a = h
-crc_lt c (x ∷ xs) h a = crc_lt (crc_byte c x) xs (steps_lt 8 (bit_xor c x) (xor_lt 32 c x h (omega (arith, a.0)))) a.1
+crc_lt c [] h small = h
+crc_lt c (x ∷ xs) h small = crc_lt (crc_byte c x) xs (steps_lt 8 (bit_xor c x) (xor_lt 32 c x h (omega (arith, small.0)))) small.1
 
 -- ---- words
 

@@ -71,11 +71,11 @@ small (x ∷ xs) h = (h 0, small xs (λ i. h (suc i)))
 -- the test of an entry's fields says that it can be written
 pub sound : (kind id : ℕ) (bytes : List ℕ) → is_sound kind id (length bytes) ≡ true → ((i : ℕ) → get_or bytes i 0 < 256) → Sound (piece kind id bytes)
 sound kind id bytes e h =
-    let a = and_parts (ltb kind (2 ^ 11)) (not (eqb (kind / 16) 0x50) && (ltb id (2 ^ 10) && ltb (length bytes) (2 ^ 10))) e in
-    let b = and_parts (not (eqb (kind / 16) 0x50)) (ltb id (2 ^ 10) && ltb (length bytes) (2 ^ 10)) a.1 in
+    let front = and_parts (ltb kind (2 ^ 11)) (not (eqb (kind / 16) 0x50) && (ltb id (2 ^ 10) && ltb (length bytes) (2 ^ 10))) e in
+    let b = and_parts (not (eqb (kind / 16) 0x50)) (ltb id (2 ^ 10) && ltb (length bytes) (2 ^ 10)) front.1 in
     let c = and_parts (ltb id (2 ^ 10)) (ltb (length bytes) (2 ^ 10)) b.1 in
     record {
-      kind = ltb-true kind (2 ^ 11) a.0;
+      kind = ltb-true kind (2 ^ 11) front.0;
       plain = eqb-false (kind / 16) 0x50 (not-true (eqb (kind / 16) 0x50) b.0);
       id = ltb-true id (2 ^ 10) c.0;
       long = ltb-true (length bytes) (2 ^ 10) c.1;

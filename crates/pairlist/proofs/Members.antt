@@ -52,9 +52,9 @@ counted_one (suc n) x f l e =
 -- THE COUNT OF A LIST: each of its numbers counts once
 pub counted_members : (n : ℕ) (xs : List ℕ) → Apart xs → ((x : ℕ) → member x xs ≡ true → x < n) → counted n (λ b. member b xs) ≡ length xs
 unfolding counted
-counted_members n [] a h = counted_none n
-counted_members n (x ∷ xs) a h =
-    counted_one n x (λ b. member b xs) (h x (head_member x xs)) a.0 ∙ ap suc (counted_members n xs a.1 (λ y k. h y (tail_member y x xs k)))
+counted_members n [] apart h = counted_none n
+counted_members n (x ∷ xs) apart h =
+    counted_one n x (λ b. member b xs) (h x (head_member x xs)) apart.0 ∙ ap suc (counted_members n xs apart.1 (λ y k. h y (tail_member y x xs k)))
 
 -- so there are no more of them than the bound
 pub members_few : (n : ℕ) (xs : List ℕ) → Apart xs → ((x : ℕ) → member x xs ≡ true → x < n) → length xs ≤ n
