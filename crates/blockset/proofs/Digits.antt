@@ -1,5 +1,6 @@
 -- One binary digit of a byte, and what setting one to 1 does to the others.
-use Rattle.std.proofs.Common.{◌≡◌, ℕ, zero, suc, ◌*◌, ◌/◌, ◌%◌, ◌^◌, ◌<◌, ◌≤◌, Bool, true, false, cond, ◌||◌, eqb, List, length, get_or, set, replicate, sym, refl, ap, ◌∙◌, ⊎_elim, pow-suc, div-one, arith, pow_pos}
+use Rattle.std.proofs.Common.{◌≡◌, ℕ, zero, suc, ◌*◌, ◌/◌, ◌%◌, ◌^◌, ◌<◌, ◌≤◌, Bool, true, false, cond, ◌||◌, eqb, Bor, List, Some, None, Option, length, get_or, set, replicate, sym, refl, ap, ◌∙◌, ⊎_elim, pow-suc, div-one, arith, pow_pos}
+use Rattle.std.specs.Option.{MatchOption, option_map, unwrap_or}
 use native.Mathlib.Nat.{mul-mod_left, div-eq_of_lt, mul-div-mul_right}
 use lib.Bits.{bit_or, or_shr, or_mod, or_zero_r}
 use lib.Dec.{eqb-suc-zero, eqb-zero-suc, eqb-suc-suc}
@@ -81,3 +82,9 @@ none_digit n b =
     (λ h. zero_digit (replicate n 0) b (get_or-replicate n (b / 8) 0 0 h))
     (λ h. past_digit (replicate n 0) b (omega (arith, length-replicate {A = ℕ} n 0)))
     (cases_lt (b / 8) n)
+
+-- a test of the byte that has a digit, if there is one, says whether the digit is 1
+pub by_byte : (xs : List ℕ) (b : ℕ) (o : Option (Bor ℕ)) (r : Bool) (P : Bor ℕ → Type 0) → unwrap_or (option_map (λ x. x.now) o) 0 ≡ get_or xs (b / 8) 0
+    → MatchOption o (r ≡ false) P → ((x : Bor ℕ) → P x → r ≡ eqb (x.now / 2 ^ (b % 8) % 2) 1) → r ≡ digit xs b
+by_byte xs b None r P is none test = none ∙ sym (zero_digit xs b (sym is))
+by_byte xs b (Some x) r P is some test = test x some ∙ ap (λ (y : ℕ). eqb (y / 2 ^ (b % 8) % 2) 1) is

@@ -7,7 +7,7 @@ ghost use Rattle.blockset.specs.Holds.{capacity, holds, counted, Inserted};
 // How many blocks a set has room for: as many as a card has at most.
 pub const CAPACITY: u32 = 4096;
 
-// Bit b % 8 of byte b / 8 is 1 where the set holds block b.
+// Bit b % 8 of byte b / 8 is 1 where the set holds block b. There is no Model: `bits` hands the bytes out as they are.
 #[derive(Drop)]
 pub struct BlockSet {
     bits: [u8; 512],
@@ -32,11 +32,8 @@ impl BlockSet {
     pub fn contains(&self, block: u32) -> bool
         ensures { result ≡ holds self.now block }
     {
-        let bits: &[u8] = &self.bits;
-        if block >= CAPACITY {
-            return false;
-        }
-        (bits[(block / 8) as usize] >> (block % 8)) & 1 == 1
+        let byte = self.bits.get((block / 8) as usize);
+        byte.is_some_and(|byte| (*byte >> (block % 8)) & 1 == 1)
     }
 
     // Puts a block into the set; one that there is no room for changes nothing.
@@ -44,8 +41,7 @@ impl BlockSet {
         ensures { Inserted self.old block self.new }
     {
         if block < CAPACITY {
-            let bits: &mut [u8] = &mut self.bits;
-            bits[(block / 8) as usize] |= 1 << (block % 8);
+            self.bits[(block / 8) as usize] |= 1 << (block % 8);
         }
     }
 
@@ -53,13 +49,7 @@ impl BlockSet {
     pub fn count(&self) -> u32
         ensures { result ≡ counted capacity (holds self.now) }
     {
-        let mut held = 0;
-        for block in 0..CAPACITY {
-            if self.contains(block) {
-                held += 1;
-            }
-        }
-        held
+        (0..CAPACITY).filter(|block| self.contains(*block)).count() as u32
     }
 
     // The bits themselves: bit b % 8 of byte b / 8 is that of block b.
@@ -67,5 +57,13 @@ impl BlockSet {
         ensures { result.now ≡ self.now.bits }
     {
         &self.bits[..]
+    }
+}
+
+impl Default for BlockSet {
+    ghost is_default = { λ s. (b : ℕ) → holds s b ≡ false };
+
+    fn default() -> BlockSet {
+        BlockSet::new()
     }
 }

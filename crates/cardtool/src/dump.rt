@@ -1,12 +1,12 @@
 // Shows the log of one block: its revision, and each commit with its tags.
 use crate::files::read_file;
 use crate::numbers::{block_size, number};
-use anyhow::anyhow;
-use flash::{Bytes, CardImage, ReadableDevice, is_erased};
+use anyhow::{Context, bail, ensure};
+use flash::{CardImage, ReadableDevice, is_erased};
 use metalog::{End, Entry, Item, LogReader, Survey};
 use std::io;
 
-// What a tag of this type is, in words.
+// What a tag of this type is, in words. A log may hold a tag of any type, so the type stays a number.
 fn kind_name(kind: u32) -> &'static str {
     match kind {
         0x001 => "file name",
@@ -35,10 +35,9 @@ fn show_bytes(rt: &HostRuntime, bytes: &[u8]) -> io::Result<()> {
     }
     print!(rt; "  |")?;
     for byte in bytes {
-        let shown = if *byte >= 0x20 && *byte < 0x7f {
-            char::from(*byte)
-        } else {
-            '.'
+        let shown = match *byte {
+            b' '..=b'~' => char::from(*byte),
+            _ => '.',
         };
         print!(rt; "{shown}")?;
     }
@@ -65,28 +64,20 @@ fn show_end(rt: &HostRuntime, end: &End) -> io::Result<()> {
     )
 }
 
-// The tags of the finished commits, up to the offset at which the last of them ends.
+// The tags of the finished commits, of which there is one at least, up to the offset at which the last of them ends.
 fn show_commits(rt: &HostRuntime, block: &[u8], last: usize) -> io::Result<()> {
-    let mut reader = LogReader::new(block);
     let mut commit: u32 = 1;
-    let mut begins = true;
-    for _ in 0..block.len() {
-        let Some(item) = reader.next() else {
-            break;
-        };
-        if begins {
-            println!(rt; "commit {commit}")?;
-            begins = false;
-        }
+    println!(rt; "commit {commit}")?;
+    for item in LogReader::new(block) {
         match item {
             Item::Held(entry) => show_entry(rt, &entry)?,
             Item::Ended(end) => {
                 show_end(rt, &end)?;
-                begins = true;
-                commit = commit.saturating_add(1);
                 if end.offset >= last {
                     break;
                 }
+                commit = commit.saturating_add(1);
+                println!(rt; "commit {commit}")?;
             }
         }
     }
@@ -94,9 +85,11 @@ fn show_commits(rt: &HostRuntime, block: &[u8], last: usize) -> io::Result<()> {
 }
 
 fn show_log(rt: &HostRuntime, block: &[u8]) -> io::Result<()> {
-    let log = Survey::of(block);
-    let commits = log.commits;
-    let end = log.end.offset;
+    let Survey {
+        revision,
+        commits,
+        end,
+    } = Survey::of(block);
     if commits == 0 {
         return if is_erased(block) {
             println!(rt; "erased: no commit")
@@ -104,13 +97,13 @@ fn show_log(rt: &HostRuntime, block: &[u8]) -> io::Result<()> {
             println!(rt; "no finished commit: the log is empty")
         };
     }
-    println!(rt; "revision {}, finished commits: {commits}", log.revision)?;
-    show_commits(rt, block, end)?;
-    if end > block.len() {
+    println!(rt; "revision {revision}, finished commits: {commits}")?;
+    show_commits(rt, block, end.offset)?;
+    let Some(rest) = block.get(end.offset..) else {
         return Ok(());
-    }
-    let left = block.len() - end;
-    let kind = if is_erased(&block[end..block.len()]) {
+    };
+    let left = rest.len();
+    let kind = if is_erased(rest) {
         "all 0xff"
     } else {
         "not all 0xff"
@@ -121,21 +114,20 @@ fn show_log(rt: &HostRuntime, block: &[u8]) -> io::Result<()> {
 // The command `log FILE B BLOCK`.
 pub(crate) fn show_block(rt: &HostRuntime, words: &[String]) -> anyhow::Result<()> {
     let [_, file, size, block] = words else {
-        return Err(anyhow!("write it as: log FILE B BLOCK"));
+        bail!("write it as: log FILE B BLOCK");
     };
     let size = block_size(size.as_str())?.bytes();
     let block = number(block.as_str())?;
     let bytes = read_file(rt, file.as_str())?;
-    let Some(image) = CardImage::new(bytes.as_slice(), size) else {
-        return Err(anyhow!("the image is no whole number of blocks of this size"));
-    };
+    let image = CardImage::new(bytes.as_slice(), size).context(
+        "the image is no whole number of blocks of this size",
+    )?;
     let mut content = vec![in rt.alloc(); 0u8; size as usize]?;
-    if image.read(block, 0, content.as_mut_slice()).is_err() {
-        let count = image.block_count();
-        return Err(anyhow!(format!(in rt.alloc();
-            "the image has {count} blocks, counted from 0"
-        )?));
-    }
+    let count = image.block_count();
+    ensure!(
+        image.read(block, 0, content.as_mut_slice()).is_ok(),
+        "the image has {count} blocks, counted from 0"
+    );
     println!(rt; "block {block} of {file}")?;
     show_log(rt, content.as_slice())?;
     Ok(())

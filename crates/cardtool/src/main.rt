@@ -25,7 +25,7 @@ an error is printed and the next line goes on. For example:
   cardtool new empty.img 512 8
   cardtool log empty.img 512 0";
 
-// One command, by its words.
+// One command, by its words. The commands are matched as text, so that all of them are seen in one place.
 fn run(rt: &HostRuntime, words: &[String]) -> anyhow::Result<()> {
     let Some(command) = words.first() else {
         return Ok(());
@@ -43,22 +43,17 @@ fn run(rt: &HostRuntime, words: &[String]) -> anyhow::Result<()> {
 
 fn split_words(rt: &HostRuntime, line: &str) -> Result<Vec<String>, AllocError> {
     let heap = rt.alloc();
-    let mut words = Vec::new(heap);
-    for word in line.split_whitespace() {
-        words.push(String::from_str(heap, word)?)?;
-    }
-    Ok(words)
+    line.split_whitespace()
+        .map(|word| String::from_str(heap, word))
+        .try_collect(heap)
 }
 
 fn run_line(rt: &HostRuntime, line: &str) -> anyhow::Result<()> {
     let words = split_words(rt, line)?;
-    match run(rt, words.as_slice()) {
-        Ok(()) => Ok(()),
-        Err(error) => {
-            println!(rt; "error: {error}")?;
-            Ok(())
-        }
+    if let Err(error) = run(rt, words.as_slice()) {
+        println!(rt; "error: {error}")?;
     }
+    Ok(())
 }
 
 fn run_lines(rt: &HostRuntime) -> anyhow::Result<()> {
@@ -69,10 +64,7 @@ fn run_lines(rt: &HostRuntime) -> anyhow::Result<()> {
 }
 
 fn run_all(rt: &HostRuntime) -> anyhow::Result<()> {
-    let mut words = Vec::new(rt.alloc());
-    for word in env::args(rt)?.skip(1) {
-        words.push(word)?;
-    }
+    let words: Vec<String> = env::args(rt)?.skip(1).collect(rt.alloc())?;
     if words.is_empty() {
         return run_lines(rt);
     }

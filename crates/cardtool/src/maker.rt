@@ -5,10 +5,10 @@ ghost use Rattle.metalog.specs.Laws.{first_bytes};
 
 use crate::files::write_file;
 use crate::numbers::{block_count, block_size};
-use anyhow::anyhow;
+use anyhow::{anyhow, bail};
 use flash::{ReadableDevice, Refusal, WritableDevice, write_block};
 use metalog::{Part, write_first};
-use parts::{MemoryBoard, Unmade};
+use parts::MemoryBoard;
 
 // The superblock's six words: version 2.0, block size, block count, longest name, largest file, largest attribute.
 fn superblock(size: u32, count: u32) -> [u8; 24]
@@ -52,26 +52,18 @@ fn write_root<D: WritableDevice>(device: &mut D) -> Result<(), Refusal>
     write_block(device, 0, &content)
 }
 
-fn made(board: Result<MemoryBoard, Unmade>) -> anyhow::Result<MemoryBoard> {
-    match board {
-        Ok(board) => Ok(board),
-        Err(Unmade::Memory) => Err(anyhow!("not enough memory for the card")),
-        Err(Unmade::Size) => Err(anyhow!("the card is too large")),
-    }
-}
-
 // The command `new FILE B N`.
 pub(crate) fn make_card(rt: &HostRuntime, words: &[String]) -> anyhow::Result<()> {
     let [_, file, size, count] = words else {
-        return Err(anyhow!("write it as: new FILE B N"));
+        bail!("write it as: new FILE B N");
     };
     let size = block_size(size.as_str())?.bytes();
     let count = block_count(count.as_str())?;
-    let mut board = made(MemoryBoard::new(rt.alloc(), size, count))?;
-    if let Err(refusal) = write_root(&mut board) {
-        let number = refusal.number();
-        return Err(anyhow!(format!(in rt.alloc(); "the card refused a write with {number}")?));
-    }
+    let mut board = MemoryBoard::new(rt.alloc(), size, count)?;
+    write_root(&mut board).map_err(|refusal| anyhow!(
+        "the card refused a write with {}",
+        refusal.number()
+    ))?;
     write_file(rt, file.as_str(), board.bytes())?;
     println!(rt;
         "{file}: an empty card of {count} blocks of {size} bytes; the superblock is in block 0, revision 1"

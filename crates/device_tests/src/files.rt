@@ -110,9 +110,9 @@ fn walks_take_the_farthest_word(rt: HostRuntime) {
 #[test]
 fn four_sizes_are_sizes(rt: HostRuntime) {
     for size in SIZES {
-        assert_eq!(rt; BlockSize::of(size.bytes()), Some(size));
+        assert_eq!(rt; BlockSize::try_from(size.bytes()).ok(), Some(size));
     }
     for bytes in [0, 256, 511, 513, 1536, 8192, u32::MAX] {
-        assert_eq!(rt; BlockSize::of(bytes), None);
+        assert_eq!(rt; BlockSize::try_from(bytes).ok(), None);
     }
 }

@@ -29,11 +29,9 @@ fn chip_with(heap: Global, content: &[u8], write: u32) -> Result<NorChip, Fail> 
 #[test]
 fn cut_first_commit_is_whole_or_absent(rt: HostRuntime) -> Result<(), Fail> {
     let mut old = [0xff; 112];
-    assert!(rt;
-        matches!(
-            write_first(&mut old, 6, &[part(0x201, 0, &[0x33; 96])]),
-            Ok(112)
-        )
+    assert_eq!(rt;
+        write_first(&mut old, 6, &[part(0x201, 0, &[0x33; 96])]),
+        Ok(112)
     );
     let nothing = (0, 0, 0);
     let whole = (1, 1, 64);

@@ -10,7 +10,8 @@ use Rattle.skiplist.specs.Layout.{start_of, Stands}
 use Rattle.skiplist.proofs.Starts.{start_le}
 use Rattle.volume.specs.Files.{content_from}
 use Rattle.volume.specs.declared.fault.What.{What}
-use Rattle.files.specs.Steps.{Fit, Within, FileAt, Copied}
+use Rattle.volume.specs.Sizes.{Fit}
+use Rattle.files.specs.Steps.{Within, FileAt, Copied}
 use Rattle.files.proofs.Cards.{good_there}
 use Rattle.files.proofs.Contents.{AllLong, usable_long, content_at}
 

@@ -1,8 +1,9 @@
 -- What a read of a file comes to, from the answers of its steps.
-use Rattle.std.proofs.Common.{◌≡◌, ℕ, zero, suc, ◌+◌, ◌-◌, ◌<◌, ◌≤◌, cond, ◌&&◌, leb, List, [], ◌++◌, length, get_or, take, drop, Some, None, Ok, Err, Option, Result, sym, refl, ap, ◌∙◌, arith}
+use Rattle.std.proofs.Common.{◌≡◌, ℕ, zero, suc, ◌+◌, ◌-◌, ◌<◌, ◌≤◌, Bool, true, false, cond, ◌&&◌, leb, List, [], ◌++◌, length, get_or, take, drop, Some, None, Ok, Err, Option, Result, sym, refl, ap, ◌∙◌, arith}
 use borrow.Rule.Slice.PartMut.{put_mid}
 use Rattle.std.proofs.lemmas.List.{length-take-le, get_or_push, take-take, drop-take}
 use Rattle.std.proofs.lemmas.Bool.{cond-true, cond-false, and_parts, leb-true}
+use Rattle.std.specs.Option.{ok_or}
 use Rattle.flash.specs.Card.{Card, bytes}
 use Rattle.flash.specs.Write.{part}
 use Rattle.metalog.specs.Tag.{le32}
@@ -13,16 +14,18 @@ use Rattle.skiplist.specs.declared.size.BlockSize.{BlockSize}
 use Rattle.skiplist.proofs.Sizes.{bytes_least}
 use Rattle.skiplist.proofs.Places.{formula_stands}
 use Rattle.volume.specs.Thread.{first_of}
-use Rattle.volume.specs.Files.{chain, chain_fault, all_right, word_fault, content_from, file_bytes}
+use Rattle.volume.specs.Files.{chain, chain_fault, all_right, word_fault, content_from, file_bytes, file_fault}
 use Rattle.volume.specs.Check.{is_size}
 use Rattle.volume.specs.declared.fault.What.{What}
 use Rattle.volume.specs.declared.fault.What.TheVariants.{Dark, Size, Tag}
 use Rattle.files.specs.Verdict.{verdict}
-use Rattle.files.specs.Bytes.{readable, FileRead, refused_for, Refused}
-use Rattle.files.specs.Steps.{SizeTold, LastBlock, FileAt, Copied}
+use Rattle.files.specs.Bytes.{readable, refused_for, Refused, ReadsFile}
+use Rattle.volume.specs.Sizes.{SizeTold}
+use Rattle.files.specs.Steps.{LastBlock, FileAt, Copied}
+use Rattle.volume.proofs.Retold.{retold}
 use Rattle.files.proofs.Rights.{none_right}
 use Rattle.files.proofs.Copies.{no_answer}
-use Rattle.files.proofs.Verdicts.{chain_length, chain_usable, told_card, verdict_card, verdict_long, verdict_file, fault_parts}
+use Rattle.files.proofs.Verdicts.{chain_length, chain_usable, told_card, verdict_file, fault_parts}
 
 -- ---- a file in which nothing is wrong
 
@@ -59,9 +62,9 @@ bytes_end n size last there =
 
 -- ---- what it comes to
 
-pub record Outcome (c : Card) (head n place : ℕ) (old : List ℕ) (r : Result ℕ What) (out : List ℕ) : Type 0 where
-  pub sound : (seen : List ℕ) → verdict c seen head n ≡ None → FileRead c head n place old r out
-  pub refused : Refused c n (λ w. w) old r out
+-- the answer with what is wrong alone
+abbrev pub Outcome : Card → ℕ → ℕ → ℕ → List ℕ → Result ℕ What → List ℕ → Type 0
+Outcome c head n place old r out = ReadsFile c head n place (λ w. w) old r out
 
 some_none : (o : Option What) (w : What) → o ≡ Some w → o ≡ None → ⊥
 some_none o w p q = let bad : ◌≡◌ {A = ℕ} 0 1 = cc in omega arith
@@ -76,19 +79,36 @@ refused_first c head n place old w reason wrong = record {
   refused = record { told = λ v e. ap Err (same_reason (refused_for c n) w v reason e); kept = λ v e. refl };
 }
 
-pub outcome_card : (c : Card) (head n place : ℕ) (old : List ℕ) (w : What) → SizeTold c (Err w) → Outcome c head n place old (Err w) old
+-- what refuses a read is what is wrong with the file
+pub refused_verdict : (c : Card) (seen : List ℕ) (head n : ℕ) (w : What) → refused_for c n ≡ Some w → verdict c seen head n ≡ Some w
+unfolding refused_for verdict
+refused_verdict c seen head n w e = by c.dark (is_size c.size (length c.blocks)) (leb 1 n && leb n file_limit) e
+  where
+    by : (d z l : Bool) → cond d (Some Dark) (cond z (cond l None (Some Tag)) (Some Size)) ≡ Some w → cond d (Some Dark) (cond z (cond l (file_fault c seen head n) (Some Tag)) (Some Size)) ≡ Some w
+    by true z l e = e
+    by false true true e = let bad : ◌≡◌ {A = ℕ} 0 1 = cc in absurd (omega arith)
+    by false true false e = e
+    by false false l e = e
+
+pub outcome_refused : (c : Card) (head n place : ℕ) (old : List ℕ) (w : What) → refused_for c n ≡ Some w → Outcome c head n place old (Err w) old
+outcome_refused c head n place old w e = refused_first c head n place old w e (λ seen. refused_verdict c seen head n w e)
+
+-- what is wrong with the card refuses a read
+pub refused_card : (c : Card) (n : ℕ) (w : What) → SizeTold c (Err w) → refused_for c n ≡ Some w
 unfolding refused_for
-outcome_card c head n place old w told =
-    refused_first c head n place old w (told_card c.dark (is_size c.size (length c.blocks)) (leb 1 n && leb n file_limit) w None told) (λ seen. verdict_card c seen head n w told)
+refused_card c n w told = told_card c.dark (is_size c.size (length c.blocks)) (leb 1 n && leb n file_limit) w None told
 
 -- the card is as it should be
 reason_open : (c : Card) (n : ℕ) (size : BlockSize) → SizeTold c (Ok size) → refused_for c n ≡ cond (leb 1 n && leb n file_limit) None (Some Tag)
 unfolding refused_for
 reason_open c n size told = cond-false c.dark (Some Dark) _ told.0.powered ∙ cond-true (is_size c.size (length c.blocks)) _ (Some Size) told.2
 
-pub outcome_long : (c : Card) (head n place : ℕ) (old : List ℕ) (size : BlockSize) → SizeTold c (Ok size) → LastBlock (bytes_of size) n None → Outcome c head n place old (Err Tag) old
-outcome_long c head n place old size told long =
-    refused_first c head n place old Tag (reason_open c n size told ∙ cond-false (leb 1 n && leb n file_limit) None (Some Tag) long) (λ seen. verdict_long c seen head n size told long)
+-- and so does a length that no file has
+pub refused_long : (c : Card) (n : ℕ) (size : BlockSize) (o : Option ℕ) (w : What) → SizeTold c (Ok size) → LastBlock (bytes_of size) n o → Err w ≡ ok_or o Tag → refused_for c n ≡ Some w
+refused_long c n size None w told long e =
+    let tag : Tag ≡ w = cc in
+    reason_open c n size told ∙ cond-false (leb 1 n && leb n file_limit) None (Some Tag) long ∙ ap Some tag
+refused_long c n size (Some last) w told long e = let bad : ◌≡◌ {A = ℕ} 0 1 = cc in absurd (omega arith)
 
 -- a file that may be on the card is not refused
 not_refused_lem : (c : Card) (n : ℕ) (size : BlockSize) (last : ℕ) (old : List ℕ) (r : Result ℕ What) (out : List ℕ) → SizeTold c (Ok size) → LastBlock (bytes_of size) n (Some last) → Refused c n (λ w. w) old r out
@@ -155,3 +175,11 @@ outcome_read c head n place old size last k new told there less is copied =
           };
       refused = not_refused_lem c n size last old (Ok k) (put_mid 0 (k - 0) old new) told there;
     }
+
+-- ---- the same answer, as it is told to a caller
+
+pub reads_retold : {E : Type 0} (tells : What → E) (c : Card) (head n place : ℕ) (old : List ℕ) (r : Result ℕ What) (out : List ℕ) → Outcome c head n place old r out → ReadsFile c head n place tells old (retold tells r) out
+reads_retold tells c head n place old r out o = record {
+  sound = λ seen none. record { count = ap (retold tells) (o.sound seen none).count; holds = (o.sound seen none).holds };
+  refused = record { told = λ w e. ap (retold tells) (o.refused.told w e); kept = o.refused.kept };
+}

@@ -6,7 +6,8 @@ use Rattle.skiplist.specs.Strides.{Stride}
 use Rattle.skiplist.specs.Layout.{pointers_of}
 use Rattle.skiplist.proofs.Starts.{header_le}
 use Rattle.volume.specs.Thread.{usable}
-use Rattle.files.specs.Steps.{Fit, Within, FileAt}
+use Rattle.volume.specs.Sizes.{Fit}
+use Rattle.files.specs.Steps.{Within, FileAt}
 use Rattle.files.proofs.Cards.{good_within}
 use Rattle.files.proofs.Rights.{right_word, all_right_lem}
 

@@ -15,7 +15,8 @@ use Rattle.volume.specs.declared.fault.What.{What}
 use Rattle.volume.specs.declared.fault.What.TheVariants.{Dark, Size, Tag, EntryBlock, BlockTwice}
 use Rattle.volume.specs.Marks.{Marks}
 use Rattle.files.specs.Verdict.{verdict, FileChecked}
-use Rattle.files.specs.Steps.{Fit, SizeTold, LastBlock, Told, AllUsable}
+use Rattle.volume.specs.Sizes.{Fit, SizeTold}
+use Rattle.files.specs.Steps.{LastBlock, Told, AllUsable}
 
 -- ---- the blocks of a file in which nothing is wrong are good
 
@@ -50,17 +51,10 @@ told_card true z l w v e = e
 told_card false true l w v e = let bad : ◌≡◌ {A = ℕ} 0 1 = cc in absurd (omega arith)
 told_card false false l w v e = e
 
-pub verdict_card : (c : Card) (seen : List ℕ) (head n : ℕ) (w : What) → SizeTold c (Err w) → verdict c seen head n ≡ Some w
-unfolding verdict
-verdict_card c seen head n w e = told_card c.dark (is_size c.size (length c.blocks)) (leb 1 n && leb n file_limit) w (file_fault c seen head n) e
-
 -- the card is as it should be
 verdict_open : (c : Card) (seen : List ℕ) (head n : ℕ) → Fit c → is_size c.size (length c.blocks) ≡ true → verdict c seen head n ≡ cond (leb 1 n && leb n file_limit) (file_fault c seen head n) (Some Tag)
 unfolding verdict
 verdict_open c seen head n fit sized = cond-false c.dark (Some Dark) _ fit.powered ∙ cond-true (is_size c.size (length c.blocks)) _ (Some Size) sized
-
-pub verdict_long : (c : Card) (seen : List ℕ) (head n : ℕ) (size : BlockSize) → SizeTold c (Ok size) → LastBlock (bytes_of size) n None → verdict c seen head n ≡ Some Tag
-verdict_long c seen head n size told long = verdict_open c seen head n told.0 told.2 ∙ cond-false (leb 1 n && leb n file_limit) (file_fault c seen head n) (Some Tag) long
 
 -- a file that there may be: its last block's number is known
 pub verdict_file : (c : Card) (seen : List ℕ) (head n : ℕ) (size : BlockSize) (last : ℕ) → SizeTold c (Ok size) → LastBlock (bytes_of size) n (Some last) → (verdict c seen head n ≡ file_fault c seen head n) × (block_of c.size (n - 1) ≡ last)

@@ -5,6 +5,7 @@ use Rattle.flash.specs.Write.{part}
 use Rattle.skiplist.specs.Places.{file_limit}
 use Rattle.volume.specs.Files.{file_bytes}
 use Rattle.volume.specs.Check.{is_size}
+use Rattle.files.specs.Verdict.{verdict}
 use Rattle.volume.specs.declared.fault.What.{What}
 use Rattle.volume.specs.declared.fault.What.TheVariants.{Dark, Size, Tag}
 
@@ -26,3 +27,8 @@ refused_for c bytes = cond c.dark (Some Dark) (cond (is_size c.size (length c.bl
 pub record Refused {E : Type 0} (c : Card) (bytes : ℕ) (tells : What → E) (old : List ℕ) (r : Result ℕ E) (out : List ℕ) : Type 0 where
   pub told : (w : What) → refused_for c bytes ≡ Some w → r ≡ Err (tells w)
   pub kept : (w : What) → refused_for c bytes ≡ Some w → out ≡ old
+
+-- WHAT A READ OF A FILE ANSWERS: where nothing is wrong with the file, the bytes; and a refusal before a block is read
+pub record ReadsFile {E : Type 0} (c : Card) (head bytes place : ℕ) (tells : What → E) (old : List ℕ) (r : Result ℕ E) (out : List ℕ) : Type 0 where
+  pub sound : (seen : List ℕ) → verdict c seen head bytes ≡ None → FileRead c head bytes place old r out
+  pub refused : Refused c bytes tells old r out

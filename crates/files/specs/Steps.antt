@@ -2,40 +2,22 @@
 use Rattle.std.specs.Prelude.{◌≡◌, ℕ, suc, ◌+◌, ◌-◌, ◌<◌, ◌≤◌, true, false, cond, ◌&&◌, List, ◌++◌, length, take, Some, None, Ok, Err, Option, Result, nat_le, slice_index, slice_index_or}
 use Rattle.flash.specs.Card.{Card, bytes}
 use Rattle.flash.specs.Write.{part}
-use Rattle.flash.specs.declared.Refusal.{Refusal}
-use Rattle.flash.specs.declared.Refusal.TheVariants as refusal
 use Rattle.metalog.specs.Tag.{le32}
 use Rattle.skiplist.specs.Layout.{pointers_of}
 use Rattle.skiplist.specs.Places.{file_limit, block_limit, block_of}
-use Rattle.skiplist.specs.Sizes.{bytes_of}
-use Rattle.skiplist.specs.declared.size.BlockSize.{BlockSize}
 use Rattle.volume.specs.Thread.{usable}
 use Rattle.volume.specs.Files.{chain, chain_fault, right_words, all_right, content_from}
-use Rattle.volume.specs.Check.{is_size}
 use Rattle.volume.specs.declared.fault.What.{What}
-use Rattle.volume.specs.declared.fault.What.TheVariants.{Dark, Size, EntryBlock, BlockTwice, FileWord}
+use Rattle.volume.specs.declared.fault.What.TheVariants.{EntryBlock, BlockTwice, FileWord}
 use Rattle.blockset.specs.Holds.{holds, Inserted}
 use Rattle.blockset.specs.declared.BlockSet.{BlockSet}
 use Rattle.volume.specs.Marks.{Marks}
-
--- a card that answers reads, whose blocks have room for words and fit into a set
-pub record Fit (c : Card) : Type 0 where
-  pub powered : c.dark ≡ false
-  pub wide : 512 ≤ c.size
-  pub few : length c.blocks ≤ 4096
 
 -- the bytes of block b up to an offset can be read
 pub record Within (c : Card) (b end : ℕ) : Type 0 where
   pub powered : c.dark ≡ false
   pub block : b < length c.blocks
   pub inside : end ≤ c.size
-
--- what a refusal of a device says of the card
-abbrev pub reason_of : Refusal → What
-reason_of refusal.Dark = Dark
-reason_of refusal.Outside = Size
-reason_of refusal.Bad = Size
-reason_of refusal.Used = Size
 
 -- Bytes of block b, from an offset on, into the whole of a buffer that held `old`; none, since the card does not let them be
 -- read, and the buffer holds what it held.
@@ -47,11 +29,6 @@ PartRead c b at old (Err _) out = (Within c b (at + length old) → ⊥) × (out
 abbrev pub WordAt : Card → ℕ → ℕ → Result ℕ What → Type 0
 WordAt c b at (Ok w) = w ≡ le32 (bytes c b) at
 WordAt c b at (Err _) = Within c b (at + 4) → ⊥
-
--- the size of a card's blocks; none, since the card is dark or is none
-abbrev pub SizeTold : Card → Result BlockSize What → Type 0
-SizeTold c (Ok size) = Fit c × (bytes_of size ≡ c.size) × (is_size c.size (length c.blocks) ≡ true)
-SizeTold c (Err w) = cond c.dark (Some Dark) (cond (is_size c.size (length c.blocks)) None (Some Size)) ≡ Some w
 
 -- the number of the last block of a file; none, since no file has so many bytes
 abbrev pub LastBlock : ℕ → ℕ → Option ℕ → Type 0

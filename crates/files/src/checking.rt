@@ -3,14 +3,12 @@ ghost use Rattle.std.specs.Prelude.{◌≡◌, ℕ, List, replicate};
 ghost use Rattle.volume.specs.Marks.{Marks};
 ghost use Rattle.files.specs.Verdict.{FileChecked};
 
-use crate::card::{card_size, last_block};
-use crate::marking::mark_chain;
-use crate::naming::check_words;
+use crate::file::File;
 use blockset::BlockSet;
 use flash::ReadableDevice;
 use volume::What;
 
-// Room for the blocks of one file, in their order.
+// Room for the blocks of one file, in their order. An array and no ArrayVec: a file's blocks are met from the last one back.
 #[derive(Drop)]
 pub struct Trail {
     blocks: [u32; 4096],
@@ -35,11 +33,8 @@ pub fn check_file<D: ReadableDevice>(
 ) -> Result<(), What>
     ensures { (seen : List ℕ) → Marks used.old seen → FileChecked (D.meaning device.now) seen head length result used.new }
 {
-    let size = card_size(device)?;
-    let Some(last) = last_block(size, length) else {
-        return Err(What::Tag);
-    };
+    let file = File::open(device, head, length)?;
     let blocks: &mut [u32] = &mut trail.blocks;
-    mark_chain(device, used, blocks, head, last)?;
-    check_words(device, &blocks[0..last as usize + 1])
+    file.mark_chain(used, blocks)?;
+    file.check_words(&blocks[0..file.last as usize + 1])
 }

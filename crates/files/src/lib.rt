@@ -4,6 +4,7 @@
 mod card;
 mod checking;
 mod copying;
+mod file;
 mod marking;
 mod naming;
 mod reading;

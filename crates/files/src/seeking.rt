@@ -1,28 +1,23 @@
 // The way from the last block of a file back to an earlier one.
 ghost use Rattle.std.specs.Prelude.{◌≡◌, ℕ, ◌≤◌, List, Ok, slice_index};
-ghost use Rattle.files.specs.Steps.{Fit, FileAt};
+ghost use Rattle.files.specs.Steps.{FileAt};
 
-use crate::card::word_at;
+use crate::file::File;
 use flash::ReadableDevice;
 use skiplist::stride;
 use volume::What;
 
-// The block of the number `to` of a file whose last block is `head`, of the number `last`: each step follows the word that
-// leads farthest.
-pub(crate) fn seek<D: ReadableDevice>(
-    device: &D,
-    head: u32,
-    last: u32,
-    to: u32,
-) -> Result<u32, What>
-    requires { Fit (D.meaning device.now) }
-    ensures { (bs : List ℕ) → FileAt (D.meaning device.now) bs head last → to ≤ last → result ≡ Ok (slice_index bs to) }
-{
-    let mut block = head;
-    let mut from = last;
-    while let Some(word) = stride(from, to) {
-        block = word_at(device, block, 4 * word)?;
-        from -= 1 << word;
+impl<'a, D: ReadableDevice> File<'a, D> {
+    // The block of the number `to` of the file: each step follows the word that leads farthest.
+    pub(crate) fn seek(&self, to: u32) -> Result<u32, What>
+        ensures { (bs : List ℕ) → FileAt (D.meaning self.now.device.now) bs self.now.head self.now.last → to ≤ self.now.last → result ≡ Ok (slice_index bs to) }
+    {
+        let mut block = self.head;
+        let mut from = self.last;
+        while let Some(word) = stride(from, to) {
+            block = self.word_at(block, 4 * word)?;
+            from -= 1 << word;
+        }
+        Ok(block)
     }
-    Ok(block)
 }

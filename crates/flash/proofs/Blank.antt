@@ -1,21 +1,16 @@
--- Bytes that are all 0xff: a loop that asks whether they are, and the parts of bytes that are.
+-- Bytes that are all 0xff, and the parts of bytes that are.
 -- Whoever programs a unit needs that the unit is blank, and has it from a longer part that is.
-use Rattle.std.proofs.Common.{◌≡◌, ℕ, zero, suc, ◌+◌, ◌<◌, ◌≤◌, true, false, ◌&&◌, eqb, List, [], ◌∷◌, length, get_or, take, drop, replicate, refl, ap, ◌∙◌}
-use Rattle.std.proofs.lemmas.List.{at_drop_more, at_drop_all, take-take, drop-take, drop-drop}
-use Rattle.std.proofs.lemmas.Bool.{eq-eqb, ne_eqb, and_left, and_parts, and_from}
+use Rattle.std.proofs.Common.{◌≡◌, ℕ, zero, suc, ◌+◌, ◌≤◌, true, ◌&&◌, eqb, List, [], ◌∷◌, take, drop, replicate, refl, ap}
+use Rattle.std.specs.Prelude.{◌==◌}
+use Rattle.std.specs.List.{list_all}
+use Rattle.std.proofs.lemmas.List.{take-take, drop-take, drop-drop}
+use Rattle.std.proofs.lemmas.Bool.{and_parts, and_from}
 use Rattle.flash.specs.Write.{is_erased, part}
 
--- a byte of 0xff leaves the question to those behind it
-pub erased_more : (xs : List ℕ) (i : ℕ) → i < length xs → get_or xs i 0 ≡ 0xff → is_erased (drop i xs) ≡ is_erased (drop (i + 1) xs)
-erased_more xs i l e = at_drop_more is_erased xs i 0 l ∙ ap (λ b. b && is_erased (drop (i + 1) xs)) (eq-eqb (get_or xs i 0) 0xff e)
-
--- another byte settles it
-pub erased_stops : (xs : List ℕ) (i : ℕ) → i < length xs → (get_or xs i 0 ≡ 0xff → ⊥) → is_erased (drop i xs) ≡ false
-erased_stops xs i l e = at_drop_more is_erased xs i 0 l ∙ and_left (eqb (get_or xs i 0) 0xff) (is_erased (drop (i + 1) xs)) (ne_eqb (get_or xs i 0) 0xff e)
-
--- past the last byte none is left
-pub erased_end : (xs : List ℕ) (i : ℕ) → length xs ≤ i → is_erased (drop i xs) ≡ true
-erased_end xs i l = at_drop_all is_erased xs i l
+-- the question is whether all the bytes are 0xff
+pub is_erased_as_all : (xs : List ℕ) → is_erased xs ≡ list_all (λ x. x == 0xff) xs
+is_erased_as_all [] = refl
+is_erased_as_all (x ∷ xs) = ap (λ b. x == 0xff && b) (is_erased_as_all xs)
 
 -- what an erase leaves is erased
 pub erased_replicate : (n : ℕ) → is_erased (replicate n 0xff) ≡ true

@@ -1,6 +1,8 @@
 -- Asking for the programs of a content one after the other: one unit more, the unit at which the device stopped, and the
 -- end. What the content leaves in its block, and that units which are free are never refused.
-use Rattle.std.proofs.Common.{◌≡◌, ℕ, suc, ◌+◌, ◌-◌, ◌*◌, ◌/◌, ◌%◌, ◌<◌, ◌≤◌, true, false, List, [], ◌∷◌, ◌++◌, length, take, drop, Some, None, Ok, Err, Result, sym, ap, ◌∙◌, subst, inl, inr, arith}
+use Rattle.std.proofs.Common.{◌≡◌, ℕ, suc, ◌+◌, ◌-◌, ◌*◌, ◌/◌, ◌%◌, ◌<◌, ◌≤◌, true, false, List, [], ◌∷◌, ◌++◌, length, take, drop, Some, None, Ok, Err, Result, sym, ap, ◌∙◌, subst, inl, inr, arith, length-append, length-drop}
+use Rattle.std.proofs.Math.Seq.{take-append_seam, drop-append_seam}
+use Rattle.std.proofs.lemmas.List.{drop-drop}
 use lib.Seq.{paste}
 use Rattle.std.proofs.lemmas.Bool.Decides.{nat_tests}
 use Rattle.flash.specs.Card.{Card, Shaped, bytes, put}
@@ -14,29 +16,40 @@ use Rattle.flash.proofs.Refusals.{accepted_not_refused}
 use Rattle.flash.proofs.Sequences.{accepted_rest, finished_one, finished_join, runs_behind, runs_stopped}
 use Rattle.flash.proofs.Units.{units_append, units_after, Free, free_accepted}
 
--- the first `done` bytes, and the unit behind them
-pub units_split : (b at done n : ℕ) (content : List ℕ) → done % 16 ≡ 0 → done / 16 < n → units b at n content ≡ units b at (done / 16) content ++ program b (at + done) (take 16 (drop done content)) ∷ units b (at + done + 16) (n - done / 16 - 1) (drop 16 (drop done content))
-units_split b at done n content m l =
-    let k : 16 * (done / 16) ≡ done = omega arith in
-    let s : n ≡ done / 16 + suc (n - done / 16 - 1) = omega arith in
-    ap (λ x. units b at x content) s ∙ units_append b at (done / 16) (suc (n - done / 16 - 1)) content ∙ ap (λ x. units b at (done / 16) content ++ units b (at + x) (suc (n - done / 16 - 1)) (drop x content)) k
+-- the first k units of the content were programmed, and the bytes `rest` are left
+pub record UnitsDone (b at k : ℕ) (content rest : List ℕ) (c d : Card) (old new : Histories) : Type 0 where
+  pub within : 16 * k ≤ length content
+  pub left : rest ≡ drop (16 * k) content
+  pub done : Finished (units b at k content) c d old new
+
+-- the unit u is the next one
+next_unit : (k : ℕ) (content rest u others : List ℕ) → rest ≡ drop (16 * k) content → rest ≡ u ++ others → length u ≡ 16 → (u ≡ take 16 (drop (16 * k) content)) × (others ≡ drop (16 * (k + 1)) content) × (16 * k + 16 ≤ length content)
+next_unit k content rest u others l e n =
+    let whole : u ++ others ≡ drop (16 * k) content = sym e ∙ l in
+    let front : take 16 (u ++ others) ≡ u = ap (λ m. take m (u ++ others)) (sym n) ∙ take-append_seam u others in
+    let behind : drop 16 (u ++ others) ≡ others = ap (λ m. drop m (u ++ others)) (sym n) ∙ drop-append_seam u others in
+    let s : 16 + 16 * k ≡ 16 * (k + 1) = omega arith in (
+      sym front ∙ ap (take 16) whole,
+      sym behind ∙ ap (drop 16) whole ∙ drop-drop 16 (16 * k) content ∙ ap (λ m. drop m content) (omega arith),
+      omega (arith, simp (length-append, length-drop) at (ap length whole)),
+    )
 
 -- one unit more was programmed
-pub finished_more : (b at done : ℕ) (content u : List ℕ) (c w d : Card) (N₀ N₁ N₂ : Histories) → done % 16 ≡ 0 → u ≡ take 16 (drop done content) → Finished (units b at (done / 16) content) c w N₀ N₁ → Answers {T = Unit {0}} w (program b (at + done) u) (Ok tt) d N₁ N₂ → Finished (units b at ((done + 16) / 16) content) c d N₀ N₂
-finished_more b at done content u c w d N₀ N₁ N₂ m eu p q =
-    let one : Finished (program b (at + done) u ∷ []) w d N₁ N₂ = finished_one q.0 q.1 q.2 in
-    let z : (done + 16) / 16 - done / 16 - 1 ≡ 0 = omega arith in
-    let s = units_split b at done ((done + 16) / 16) content m (omega arith) in
-    let e : units b at (done / 16) content ++ program b (at + done) u ∷ [] ≡ units b at ((done + 16) / 16) content = sym (rw (z, ← eu) at s) in
-    subst (λ ws. Finished ws c d N₀ N₂) e (finished_join p one)
+pub units_more : (b at k o : ℕ) (content rest u others : List ℕ) (c w d : Card) (N₀ N₁ N₂ : Histories) → UnitsDone b at k content rest c w N₀ N₁ → rest ≡ u ++ others → length u ≡ 16 → o ≡ at + 16 * k → Answers {T = Unit {0}} w (program b o u) (Ok tt) d N₁ N₂ → UnitsDone b at (k + 1) content others c d N₀ N₂
+units_more b at k o content rest u others c w d N₀ N₁ N₂ p e n place q =
+    let x = next_unit k content rest u others p.left e n in
+    let one : Finished (program b o u ∷ []) w d N₁ N₂ = finished_one q.0 q.1 q.2 in
+    let s : units b at (k + 1) content ≡ units b at k content ++ program b o u ∷ [] = rw (place, x.0) (units_append b at k 1 content) in
+    record { within = omega (arith, x.2); left = x.1; done = subst (λ ws. Finished ws c d N₀ N₂) (sym s) (finished_join p.done one) }
 
 -- the unit behind those that were programmed was refused, or the power went in it
-pub runs_stop : (b at done : ℕ) (content u : List ℕ) (e : Refusal) (c w d : Card) (N₀ N₁ N₂ : Histories) → done % 16 ≡ 0 → done < length content → length content % 16 ≡ 0 → u ≡ take 16 (drop done content) → Finished (units b at (done / 16) content) c w N₀ N₁ → Answers {T = Unit {0}} w (program b (at + done) u) (Err e) d N₁ N₂ → Runs {T = Unit {0}} (programs b at content) c (Err e) d N₀ N₂
-runs_stop b at done content u e c w d N₀ N₁ N₂ m l k eu p q =
-    let rest : List Write = units b (at + done + 16) (length content / 16 - done / 16 - 1) (drop 16 (drop done content)) in
-    let stopped = runs_stopped w (program b (at + done) u) rest e d N₁ N₂ q in
-    let s : units b at (done / 16) content ++ program b (at + done) u ∷ rest ≡ programs b at content = sym (rw (← eu) at (units_split b at done (length content / 16) content m (omega arith))) in
-    subst (λ ws. Runs {T = Unit {0}} ws c (Err e) d N₀ N₂) s (runs_behind {T = Unit {0}} (program b (at + done) u ∷ rest) (Err e) d N₂ p stopped)
+pub units_stop : (b at k o : ℕ) (content rest u others : List ℕ) (e : Refusal) (c w d : Card) (N₀ N₁ N₂ : Histories) → length content % 16 ≡ 0 → UnitsDone b at k content rest c w N₀ N₁ → rest ≡ u ++ others → length u ≡ 16 → o ≡ at + 16 * k → Answers {T = Unit {0}} w (program b o u) (Err e) d N₁ N₂ → Runs {T = Unit {0}} (programs b at content) c (Err e) d N₀ N₂
+units_stop b at k o content rest u others e c w d N₀ N₁ N₂ m p is n place q =
+    let x = next_unit k content rest u others p.left is n in
+    let more : length content / 16 ≡ k + suc (length content / 16 - k - 1) = omega (arith, x.2) in
+    let behind : List Write = units b (at + 16 * k + 16) (length content / 16 - k - 1) (drop 16 (drop (16 * k) content)) in
+    let s : programs b at content ≡ units b at k content ++ program b o u ∷ behind = rw (place, x.0) (ap (λ y. units b at y content) more ∙ units_append b at k (suc (length content / 16 - k - 1)) content) in
+    subst (λ ws. Runs {T = Unit {0}} ws c (Err e) d N₀ N₂) (sym s) (runs_behind {T = Unit {0}} (program b o u ∷ behind) (Err e) d N₂ p.done (runs_stopped w (program b o u) behind e d N₁ N₂ q))
 
 -- what `unfit` says where it finds no reason
 pub fits_from : (c : Card) (at n : ℕ) → unfit c at n ≡ None → (c.dark ≡ false) × (n % 16 ≡ 0) × (at + n ≤ c.size)

@@ -10,6 +10,11 @@ use Rattle.flash.specs.declared.Refusal.TheVariants.{Dark, Outside}
 unfoldable pub read_refusal : Card → ℕ → ℕ → ℕ → Option Refusal
 read_refusal c b at n = cond c.dark (Some Dark) (cond (nat_lt b (length c.blocks) && nat_le (at + n) c.size) None (Some Outside))
 
+-- what a check of a request answers: the reason to refuse it, or that there is none
+abbrev pub Checks : {T : Type 0} → Option Refusal → Result T Refusal → Type 0
+Checks reason (Ok _) = reason ≡ None
+Checks reason (Err e) = reason ≡ Some e
+
 -- The answer to a read into a buffer that held `old`, and what the buffer holds then: the bytes asked for, or what it held.
 abbrev pub Reads : {T : Type 0} → Card → ℕ → ℕ → List ℕ → Result T Refusal → List ℕ → Type 0
 Reads c b at old (Ok _) out = (read_refusal c b at (length old) ≡ None) × (out ≡ part (bytes c b) at (length old))

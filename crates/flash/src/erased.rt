@@ -7,10 +7,5 @@ ghost use Rattle.flash.specs.Write.{is_erased};
 pub fn is_erased(bytes: &[u8]) -> bool
     ensures { result ≡ is_erased bytes.now }
 {
-    for byte in bytes {
-        if *byte != 0xff {
-            return false;
-        }
-    }
-    true
+    bytes.iter().all(|byte| *byte == 0xff)
 }

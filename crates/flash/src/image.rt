@@ -1,85 +1,65 @@
 // A card as it lies in a run of bytes, one block behind the other: a device for reading only, over the caller's bytes.
 // All its blocks are good, and its power never goes.
-ghost use Rattle.std.specs.Prelude.{◌≡◌, ℕ, ◌+◌, false, ◌&&◌, List, length, nat_le, nat_lt};
+ghost use Rattle.std.specs.Prelude.{◌≡◌, length};
 ghost use Rattle.flash.specs.Image.{Images, blocks_in, image_card};
 ghost use Rattle.flash.specs.ImageCards.{image_shaped};
 
-use super::{ReadableDevice, Refusal};
+use super::{Geometry, ReadableDevice, Refusal};
+use std::convert::AsSlice;
 
-// What holds a run of bytes and lends it: a slice, or whatever else a caller keeps a card's image in.
-pub trait Bytes {
-    ghost content: { Self → List ℕ };
-
-    fn bytes(&self) -> &[u8]
-        ensures { result.now ≡ content self.now };
-}
-
-impl<'a> Bytes for &'a [u8] {
-    ghost content = { λ s. s.now };
-
-    fn bytes(&self) -> &[u8] {
-        *self
-    }
-}
-
+// The bytes are lent by a slice, or by whatever else a caller keeps a card's image in. How many blocks they have is found once,
+// when the card is made.
 #[derive(Drop)]
-pub struct CardImage<B: Bytes> {
+pub struct CardImage<B: AsSlice<u8>> {
     image: B,
-    size: u32,
+    geometry: Geometry,
+    ghost fits: { geometry.block_count ≡ blocks_in geometry.block_size (length (B.AsSlice.items image)) },
 }
 
-impl<B: Bytes + Drop> CardImage<B> {
+impl<B: AsSlice<u8> + Drop> CardImage<B> {
     // The card in these bytes, where they are a whole number of blocks of this size, of which there are fewer than 2^32.
     pub fn new(image: B, block_size: u32) -> Option<CardImage<B>>
-        ensures { Images (λ i. image_card i.size (B.Bytes.content i.image)) block_size (B.Bytes.content image) result }
+        ensures { Images (λ i. image_card i.geometry.block_size (B.AsSlice.items i.image)) block_size (B.AsSlice.items image) result }
     {
-        let total = image.bytes().len();
+        let total = image.as_slice().len();
         let size = block_size as usize;
-        if size == 0 || total % size != 0 || total / size > u32::MAX as usize {
+        if size == 0 || total % size != 0 {
             return None;
         }
+        let block_count = u32::try_from(total / size).ok()?;
         Some(CardImage {
             image,
-            size: block_size,
+            geometry: Geometry {
+                block_size,
+                block_count,
+            },
         })
     }
 }
 
-impl<B: Bytes> CardImage<B> {
-    // How many blocks the bytes have.
-    fn count(&self) -> u32
-        ensures { result ≡ blocks_in self.now.size (length (B.Bytes.content self.now.image)) }
+impl<B: AsSlice<u8>> CardImage<B> {
+    fn bytes(&self) -> &[u8]
+        ensures { result.now ≡ B.AsSlice.items self.now.image }
     {
-        if self.size == 0 {
-            return 0;
-        }
-        let blocks = self.image.bytes().len() / self.size as usize;
-        blocks.min(u32::MAX as usize) as u32
-    }
-
-    // Whether n bytes from an offset of a block on lie inside it.
-    fn is_inside(&self, block: u32, at: u32, n: usize) -> bool
-        ensures { result ≡ (nat_lt block (blocks_in self.now.size (length (B.Bytes.content self.now.image))) && nat_le (at + n) self.now.size) }
-    {
-        at <= self.size && n <= (self.size - at) as usize && block < self.count()
+        self.image.as_slice()
     }
 }
 
-impl<B: Bytes> ReadableDevice for CardImage<B> {
-    ghost meaning = { λ i. image_card i.size (B.Bytes.content i.image) };
+impl<B: AsSlice<u8>> ReadableDevice for CardImage<B> {
+    ghost meaning = { λ i. image_card i.geometry.block_size (B.AsSlice.items i.image) };
 
     ghost shaped = { λ x. image_shaped _ _ };
 
     fn block_size(&self) -> u32 {
-        self.size
+        self.geometry.block_size
     }
 
     fn block_count(&self) -> u32 {
-        self.count()
+        self.geometry.block_count
     }
 
     fn is_good(&self, block: u32) -> bool {
-        block < self.count()
+        block < self.geometry.block_count
     }
 
     fn is_dark(&self) -> bool {
@@ -87,12 +67,11 @@ impl<B: Bytes> ReadableDevice for CardImage<B> {
     }
 
     fn read(&self, block: u32, at: u32, out: &mut [u8]) -> Result<(), Refusal> {
-        if !self.is_inside(block, at, out.len()) {
+        if !self.geometry.is_inside(block, at, out.len()) {
             return Err(Refusal::Outside);
         }
-        let start = block as usize * self.size as usize + at as usize;
-        let bytes = self.image.bytes();
-        out.copy_from_slice(&bytes[start..start + out.len()]);
+        let start = self.geometry.place(block, at);
+        out.copy_from_slice(&self.bytes()[start..start + out.len()]);
         Ok(())
     }
 }

@@ -8,44 +8,44 @@ ghost use Rattle.flash.specs.Write.{number_of, program, erase};
 ghost use Rattle.flash.specs.History.{Event};
 ghost use Rattle.flash.specs.Device.{Reads, Answers, PowersUp};
 
+mod counts;
 mod erased;
+mod geometry;
 mod image;
 pub mod laws;
 mod recorder;
 mod writing;
 
+pub use counts::Counts;
 pub use erased::is_erased;
-pub use image::{Bytes, CardImage};
+pub use geometry::Geometry;
+pub use image::CardImage;
 pub use recorder::{Recorder, account_holds};
 pub use writing::{UNIT, program_units, write_block};
 
-// Why a device refuses a request.
+// Why a device refuses a request, each reason with its number.
 #[derive(Clone, Copy, PartialEq, Eq, Debug)]
 pub enum Refusal {
     // The power is gone, or went in this very write.
-    Dark,
+    Dark = 12,
     // The request reaches outside the card, or is no unit.
-    Outside,
+    Outside = 17,
     // A write to a block that is not good.
-    Bad,
+    Bad = 18,
     // A program of a unit that is not all 0xff.
-    Used,
+    Used = 19,
 }
 
 impl Refusal {
     pub fn number(self) -> u8
         ensures { result ≡ number_of self }
     {
-        match self {
-            Refusal::Dark => 12,
-            Refusal::Outside => 17,
-            Refusal::Bad => 18,
-            Refusal::Used => 19,
-        }
+        self as u8
     }
 }
 
-// A part that can be read: questions and reads answer from the card that it means, and alter nothing.
+// A part that can be read: questions and reads answer from the card that it means, and alter nothing. Block and offset stay
+// two numbers: a driver hands them on as two, and `is_good` and `erase` take the block alone.
 pub trait ReadableDevice {
     ghost meaning: { Self → Card };
 

@@ -1,7 +1,8 @@
 // Writing more than one unit: the units of a content upward through a block, and a whole block anew.
 // Each call is refused before its first write where that can be known, and else stops at the first write that is refused
 // or in which the power goes.
-ghost use Rattle.std.specs.Prelude.{◌≡◌, ◌+◌, ◌%◌, ◌^◌, ◌<◌, length, None};
+ghost use Rattle.std.specs.Prelude.{◌≡◌, ◌+◌, ◌%◌, ◌^◌, ◌<◌, length, OnOk};
+ghost use Rattle.flash.specs.Device.{Checks};
 ghost use Rattle.flash.specs.Runs.{Runs, Tried, programs, unfit};
 ghost use Rattle.flash.specs.Contents.{Pasted, TakesFree, WroteBlock, rewrites};
 
@@ -22,9 +23,7 @@ pub fn program_units<D: WritableDevice>(
     ensures holds { Pasted (D.ReadableDevice.meaning device.old) block at content.now result (D.ReadableDevice.meaning device.new) }
     ensures free { TakesFree (D.ReadableDevice.meaning device.old) block at content.now result (D.ReadableDevice.meaning device.new) (D.history device.old) (D.history device.new) }
 {
-    if let Some(refusal) = reason_unfit(device, at, content.len()) {
-        return Err(refusal);
-    }
+    check_fits(device, at, content.len())?;
     program_each(device, block, at, content)
 }
 
@@ -39,30 +38,28 @@ pub fn write_block<D: WritableDevice>(
     ensures asked { Tried 0 (length content.now) (rewrites block content.now) (D.ReadableDevice.meaning device.old) result (D.ReadableDevice.meaning device.new) (D.history device.old) (D.history device.new) }
     ensures wrote { WroteBlock (D.ReadableDevice.meaning device.old) block content.now result (D.ReadableDevice.meaning device.new) (D.history device.old) (D.history device.new) }
 {
-    if let Some(refusal) = reason_unfit(device, 0, content.len()) {
-        return Err(refusal);
-    }
+    check_fits(device, 0, content.len())?;
     device.erase(block)?;
     program_each(device, block, 0, content)
 }
 
 // Why writing so many bytes behind an offset is refused before any write is asked: the card is dark, or they are no whole
 // number of units that fit into a block.
-fn reason_unfit<D: ReadableDevice>(device: &D, at: u32, count: usize) -> Option<Refusal>
-    ensures reason { result ≡ unfit (D.meaning device.now) at count }
-    ensures below { result ≡ None → at + count < 2 ^ 32 }
+fn check_fits<D: ReadableDevice>(device: &D, at: u32, count: usize) -> Result<(), Refusal>
+    ensures why { Checks (unfit (D.meaning device.now) at count) result }
+    ensures below { OnOk result (at + count < 2 ^ 32) }
 {
     if device.is_dark() {
-        return Some(Refusal::Dark);
+        return Err(Refusal::Dark);
     }
     let size = device.block_size() as usize;
     if count % UNIT != 0 || count > size || at as usize > size - count {
-        return Some(Refusal::Outside);
+        return Err(Refusal::Outside);
     }
-    None
+    Ok(())
 }
 
-// Programs the units of a content upward from an offset, which fits: the loop of the calls below.
+// Programs the units of a content upward from an offset, which fits: the loop of the calls above.
 fn program_each<D: WritableDevice>(
     device: &mut D,
     block: u32,
@@ -73,10 +70,8 @@ fn program_each<D: WritableDevice>(
     requires content_bound { at + length content.now < 2 ^ 32 }
     ensures { Runs (programs block at content.now) (D.ReadableDevice.meaning device.old) result (D.ReadableDevice.meaning device.new) (D.history device.old) (D.history device.new) }
 {
-    let mut done = 0;
-    while done < content.len() {
-        device.program(block, at + done as u32, &content[done..done + UNIT])?;
-        done += UNIT;
+    for (index, unit) in content.chunks_exact(UNIT).enumerate() {
+        device.program(block, at + (UNIT * index) as u32, unit)?;
     }
     Ok(())
 }

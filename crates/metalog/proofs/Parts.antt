@@ -11,7 +11,7 @@ use Rattle.metalog.specs.declared.writer.Unwritable.TheVariants.{NoRoom}
 use Rattle.metalog.specs.Tag.{be4, le4}
 use Rattle.metalog.specs.Log.{first_prior}
 use Rattle.metalog.specs.Commit.{Piece, Sound, tag_of, body, last_of, pad_of, end_bytes, encode}
-use Rattle.metalog.specs.Writer.{Put, Begun, piece_of, put_refusal, end_refusal, or_else, write_refusal, Puts, Partly, PutsAll, Concludes, Writes, WritesFirst}
+use Rattle.metalog.specs.Writer.{Put, Begun, piece_of, put_refusal, end_refusal, or_else, write_refusal, Ends, Puts, Partly, Writes, WritesFirst}
 use Rattle.metalog.proofs.Puts.{none, then, moved}
 
 -- ---- entries behind entries
@@ -29,6 +29,16 @@ body_one prior p = ap (λ l. be4 (bit_xor (tag_of p) prior) ++ l) (append-nil p.
 last_push : (prior : ℕ) (ps : List Piece) (p : Piece) → last_of prior (ps ++ p ∷ []) ≡ tag_of p
 last_push prior [] p = refl
 last_push prior (q ∷ ps) p = last_push (tag_of q) ps p
+
+-- all the entries ps are put, and only the end is wanting
+abbrev pub AllPut : List ℕ → ℕ → ℕ → List Piece → List ℕ → ℕ → ℕ → Type 0
+AllPut b used prior ps c used' prior' =
+    (write_refusal used (length b) ps ≡ end_refusal used' (length b)) × AllByRecursion Sound ps
+    × Put b c used (body prior ps) × (used' ≡ used + length (body prior ps)) × (prior' ≡ last_of prior ps)
+
+-- one of the entries ps is refused, and those before it are put
+abbrev pub Stuck : List ℕ → ℕ → ℕ → List Piece → Unwritable → List ℕ → Type 0
+Stuck b used prior ps e c = (write_refusal used (length b) ps ≡ Some e) × Partly b c used (body prior ps)
 
 -- k of the entries ps are put
 pub record Sofar (b : List ℕ) (used prior : ℕ) (ps : List Piece) (k : ℕ) (c : List ℕ) (used' prior' : ℕ) : Type 0 where
@@ -53,7 +63,7 @@ module _ (b : List ℕ) (used prior : ℕ) (ps : List Piece) (k : ℕ) (c : List
       s.refusal ∙ ap (write_refusal u (length b)) (drop_more ps k d h)
       ∙ ap (λ n. or_else (put_refusal u n x.kind x.id (length x.bytes)) (write_refusal (u + (4 + length x.bytes)) (length b) (drop (k + 1) ps))) (sym s.put.long)
 
-  pub put_more : {T : Type 0} (t : T) (e : List ℕ) (u1 p1 : ℕ) → Puts c u p (get_or ps k d).kind (get_or ps k d).id (get_or ps k d).bytes (Ok t) e u1 p1 → Sofar b used prior ps (k + 1) e u1 p1
+  pub put_more : {T : Type 0} (t : T) (e : List ℕ) (u1 p1 : ℕ) → Puts c u p (get_or ps k d) (Ok t) e u1 p1 → Sofar b used prior ps (k + 1) e u1 p1
   unfolding x
   put_more t e u1 p1 w =
       let front = take k ps in
@@ -69,7 +79,7 @@ module _ (b : List ℕ) (used prior : ℕ) (ps : List Piece) (k : ℕ) (c : List
         refusal = next_refusal ∙ ap (λ o. or_else o (write_refusal (u + (4 + length x.bytes)) (length b) (drop (k + 1) ps))) w.0 ∙ ap (λ n. write_refusal n (length b) (drop (k + 1) ps)) (sym w.3);
       }
 
-  pub put_stuck : (r : Unwritable) (e : List ℕ) (u1 p1 : ℕ) → Puts {T = Unit {0}} c u p (get_or ps k d).kind (get_or ps k d).id (get_or ps k d).bytes (Err r) e u1 p1 → PutsAll {T = Unit {0}} b used prior ps (Err r) e u1 p1
+  pub put_stuck : (r : Unwritable) (e : List ℕ) (u1 p1 : ℕ) → Puts {T = Unit {0}} c u p (get_or ps k d) (Err r) e u1 p1 → Stuck b used prior ps r e
   unfolding x
   put_stuck r e u1 p1 w =
       let front = take k ps in
@@ -80,8 +90,8 @@ module _ (b : List ℕ) (used prior : ℕ) (ps : List Piece) (k : ℕ) (c : List
         record { many = n; put = subst (λ l. Put b l used (take n (body prior ps))) (sym w.1) (moved refl (sym part) s.put) },
       )
 
-pub put_end : {R : Type 0} (t : R) (b : List ℕ) (used prior : ℕ) (ps : List Piece) (k : ℕ) (c : List ℕ) (u p : ℕ) → Sofar b used prior ps k c u p → length ps ≤ k → PutsAll b used prior ps (Ok t) c u p
-put_end t b used prior ps k c u p s h =
+pub put_end : (b : List ℕ) (used prior : ℕ) (ps : List Piece) (k : ℕ) (c : List ℕ) (u p : ℕ) → Sofar b used prior ps k c u p → length ps ≤ k → AllPut b used prior ps c u p
+put_end b used prior ps k c u p s h =
     let all = take_all k ps h in (
       s.refusal ∙ ap (write_refusal u (length b)) (drop_all k ps h),
       subst (AllByRecursion Sound) all s.sound,
@@ -98,11 +108,11 @@ module _ (b : List ℕ) (used prior : ℕ) (parts : List Part) (k : ℕ) (c : Li
   same : piece_of (get_or parts k d) ≡ get_or (map piece_of parts) k (piece_of d)
   same = sym (get_or-map piece_of parts k d (piece_of d) h)
 
-  pub part_more : {T : Type 0} (t : T) (e : List ℕ) (u1 p1 : ℕ) → Puts c u p (get_or parts k d).kind (get_or parts k d).id (get_or parts k d).bytes.now (Ok t) e u1 p1 → Sofar b used prior (map piece_of parts) (k + 1) e u1 p1
-  part_more t e u1 p1 w = put_more b used prior (map piece_of parts) k c u p s (piece_of d) inside t e u1 p1 (subst (λ x. Puts c u p x.kind x.id x.bytes (Ok t) e u1 p1) same w)
+  pub part_more : {T : Type 0} (t : T) (e : List ℕ) (u1 p1 : ℕ) → Puts c u p (piece_of (get_or parts k d)) (Ok t) e u1 p1 → Sofar b used prior (map piece_of parts) (k + 1) e u1 p1
+  part_more t e u1 p1 w = put_more b used prior (map piece_of parts) k c u p s (piece_of d) inside t e u1 p1 (subst (λ x. Puts c u p x (Ok t) e u1 p1) same w)
 
-  pub part_stuck : (r : Unwritable) (e : List ℕ) (u1 p1 : ℕ) → Puts {T = Unit {0}} c u p (get_or parts k d).kind (get_or parts k d).id (get_or parts k d).bytes.now (Err r) e u1 p1 → PutsAll {T = Unit {0}} b used prior (map piece_of parts) (Err r) e u1 p1
-  part_stuck r e u1 p1 w = put_stuck b used prior (map piece_of parts) k c u p s (piece_of d) inside r e u1 p1 (subst (λ x. Puts {T = Unit {0}} c u p x.kind x.id x.bytes (Err r) e u1 p1) same w)
+  pub part_stuck : (r : Unwritable) (e : List ℕ) (u1 p1 : ℕ) → Puts {T = Unit {0}} c u p (piece_of (get_or parts k d)) (Err r) e u1 p1 → Stuck b used prior (map piece_of parts) r e
+  part_stuck r e u1 p1 w = put_stuck b used prior (map piece_of parts) k c u p s (piece_of d) inside r e u1 p1 (subst (λ x. Puts {T = Unit {0}} c u p x (Err r) e u1 p1) same w)
 
 -- ---- the end behind the entries
 
@@ -129,10 +139,11 @@ room used long e = go (leb (used + (8 + pad_of used)) long) refl e
     go true h k = leb-true (used + (8 + pad_of used)) long h
     go false h k = let bad : ◌≡◌ {A = ℕ} 0 1 = cc in absurd (omega arith)
 
-pub concluded : {T : Type 0} (b : List ℕ) (used prior : ℕ) (ps : List Piece) (put : Result T Unwritable) (c : List ℕ) (u p : ℕ) (r : Result ℕ Unwritable) (d : List ℕ)
-    → PutsAll b used prior ps put c u p → Concludes c u p put r d → Writes b used prior ps r d
+-- the end behind all entries, or the refusal of it
+pub ended : (b : List ℕ) (used prior : ℕ) (ps : List Piece) (c : List ℕ) (u p : ℕ) (r : Result ℕ Unwritable) (d : List ℕ)
+    → AllPut b used prior ps c u p → Ends c u p r d → Writes b used prior ps r d
 unfolding encode
-concluded b used prior ps (Ok t) c u p (Ok end) d all_put w =
+ended b used prior ps c u p (Ok end) d all_put w =
     let bs = body prior ps in
     let front : take u c ≡ take used b ++ bs = ap (λ n. take n c) all_put.3 ∙ all_put.2.front in
     let tail = end_bytes (take used b ++ bs) (last_of prior ps) in
@@ -146,18 +157,18 @@ concluded b used prior ps (Ok t) c u p (Ok end) d all_put w =
       all,
       w.2 ∙ omega (arith, all_put.3, tail_long, length-append bs tail),
     )
-concluded b used prior ps (Ok t) c u p (Err e) d all_put w =
+ended b used prior ps c u p (Err e) d all_put w =
     let bs = body prior ps in (
       all_put.0 ∙ ap (end_refusal u) (sym all_put.2.long) ∙ w.0,
       partly_front bs (end_bytes (take used b ++ bs) (last_of prior ps)) (bs ++ end_bytes (take used b ++ bs) (last_of prior ps)) refl (whole_front bs (subst (λ l. Put b l used bs) (sym w.1) all_put.2)),
     )
-concluded b used prior ps (Err e) c u p (Ok end) d all_put w = let bad : ◌≡◌ {A = ℕ} 0 1 = cc in absurd (omega arith)
-concluded b used prior ps (Err e) c u p (Err f) d all_put w =
+
+-- an entry that was refused is the commit's refusal
+pub stopped : (b : List ℕ) (used prior : ℕ) (ps : List Piece) (e : Unwritable) (c : List ℕ) → Stuck b used prior ps e c → Writes b used prior ps (Err e) c
+unfolding encode
+stopped b used prior ps e c w =
     let bs = body prior ps in
-    let same : e ≡ f = cc in (
-      all_put.0 ∙ ap Some same,
-      partly_front bs (end_bytes (take used b ++ bs) (last_of prior ps)) (bs ++ end_bytes (take used b ++ bs) (last_of prior ps)) refl (record { many = all_put.1.many; put = subst (λ l. Put b l used (take all_put.1.many bs)) (sym w.1) all_put.1.put }),
-    )
+    (w.0, partly_front bs (end_bytes (take used b ++ bs) (last_of prior ps)) (bs ++ end_bytes (take used b ++ bs) (last_of prior ps)) refl w.1)
 
 -- ---- the revision word before the first commit
 
@@ -221,6 +232,9 @@ first_concluded b revision c ps r d g w =
 -- what the buffer holds in the end, by another name
 pub finally : (b : List ℕ) (used prior : ℕ) (ps : List Piece) (r : Result ℕ Unwritable) (d x : List ℕ) → Writes b used prior ps r d → x ≡ d → Writes b used prior ps r x
 finally b used prior ps r d x w e = subst (Writes b used prior ps r) (sym e) w
+
+pub finally_ended : (b : List ℕ) (used prior : ℕ) (r : Result ℕ Unwritable) (d x : List ℕ) → Ends b used prior r d → x ≡ d → Ends b used prior r x
+finally_ended b used prior r d x w e = subst (Ends b used prior r) (sym e) w
 
 -- a buffer and a state by other names
 pub begun_as : (b c : List ℕ) (used used' prior prior' : ℕ) (ps : List Piece) (r : Result ℕ Unwritable) (d : List ℕ) → Writes b used prior ps r d → b ≡ c → used ≡ used' → prior ≡ prior' → Writes c used' prior' ps r d

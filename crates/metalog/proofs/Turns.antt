@@ -1,6 +1,11 @@
--- What one turn of a loop over a `LogReader` keeps: what is still to be read makes the whole.
-use Rattle.std.proofs.Common.{◌≡◌, ℕ, zero, suc, ◌+◌, ◌-◌, ◌≤◌, List, [], ◌∷◌, ◌++◌, length, Some, None, sym, refl, ap, ◌∙◌, arith}
-use Rattle.metalog.specs.Log.{Entry, Item, held, ended, Cursor, End, step, before, items, items_of, commits_of, end_from, end_of}
+-- What a `LogReader` gives, one after the other; and what one turn of a loop over it keeps: what is still to be read makes
+-- the whole.
+use Rattle.std.proofs.Common.{◌≡◌, ℕ, zero, suc, ◌+◌, ◌-◌, ◌≤◌, List, [], ◌∷◌, ◌++◌, length, Some, None, Option, sym, refl, ap, ◌∙◌, subst, arith}
+use Rattle.std.specs.Iterator.{AlwaysYields}
+use Rattle.std.proofs.lemmas.Iterator.{YieldsList}
+use Rattle.metalog.specs.declared.reader.LogReader.{LogReader}
+use Rattle.metalog.specs.Reader.{item_of, cursor_of, Reads}
+use Rattle.metalog.specs.Log.{Entry, Item, held, ended, Cursor, End, step, start, before, items, items_of, commits_of, end_from, end_of}
 
 pub items_some : (n : ℕ) (b : List ℕ) (c : Cursor) (x : Item) → (step b c).item ≡ Some x → items (suc n) b c ≡ x ∷ items n b (step b c).next
 unfolding items
@@ -10,6 +15,32 @@ pub items_none : (n : ℕ) (b : List ℕ) (c : Cursor) → (step b c).item ≡ N
 unfolding items
 items_none zero b c e = refl
 items_none (suc n) b c e = ap (λ o. before o (items n b (step b c).next)) e
+
+-- a reader gives what is read from where it stands, for any number of tags that is large enough
+listed : (n : ℕ) (r : LogReader) → length r.block.now - r.at ≤ n → AlwaysYields Reads item_of r (items n r.block.now (cursor_of r))
+unfolding items
+listed zero r enough = λ x j g. absurd (omega (arith, g.moves))
+listed (suc n) r enough = go (listed n) (step r.block.now (cursor_of r)).item refl
+  where
+    go : ((j : LogReader) → length j.block.now - j.at ≤ n → AlwaysYields Reads item_of j (items n j.block.now (cursor_of j)))
+        → (o : Option Item) → (step r.block.now (cursor_of r)).item ≡ o → AlwaysYields Reads item_of r (items (suc n) r.block.now (cursor_of r))
+    go rest None e = subst (AlwaysYields Reads item_of r) (sym (items_none (suc n) r.block.now (cursor_of r) e)) (λ x j g. let is = g.item in cc)
+    go rest (Some y) e =
+        subst (AlwaysYields Reads item_of r) (sym (items_some n r.block.now (cursor_of r) y e)) (
+          λ j g. let is = g.item in cc,
+          λ x j g.
+              let is = g.item in
+              let same : items n j.block.now (cursor_of j) ≡ items n r.block.now (step r.block.now (cursor_of r)).next = (λ k. items n (g.block k) (g.cursor k)) in (
+                cc,
+                subst (AlwaysYields Reads item_of j) same (rest j (omega (arith, enough, g.moves, ap length g.block))),
+              ),
+        )
+
+-- a reader at the start of a block gives all that is read of the block
+pub yields_all : (b : List ℕ) (r : LogReader) → r.block.now ≡ b → cursor_of r ≡ start b → YieldsList Reads item_of r (items_of b)
+yields_all b r block cursor =
+    let same : items (length b) r.block.now (cursor_of r) ≡ items_of b = (λ k. items (length b) (block k) (cursor k)) in
+    record { runs = subst (AlwaysYields Reads item_of r) same (listed (length b) r (omega (arith, ap length block))) }
 
 -- at the place i, with `commits` commits read, of which the last ended at `end`, the rest of the log makes the whole
 pub record Sofar (b : List ℕ) (c : Cursor) (i commits : ℕ) (end : End) : Type 0 where

@@ -1,16 +1,22 @@
 -- Words and tags of a block, by what is left of the block at their place.
-use Rattle.std.proofs.Common.{◌≡◌, ℕ, zero, suc, ◌+◌, ◌-◌, ◌*◌, ◌/◌, ◌%◌, ◌^◌, ◌<◌, ◌≤◌, true, false, cond, ltb, leb, List, [], ◌∷◌, ◌++◌, length, drop, replicate, Some, None, Option, sym, refl, ap, ◌∙◌, ⊎_elim, add-zero, add_assoc, arith}
+use Rattle.std.proofs.Common.{◌≡◌, ℕ, zero, suc, ◌+◌, ◌-◌, ◌*◌, ◌/◌, ◌%◌, ◌^◌, ◌<◌, ◌≤◌, true, false, cond, ltb, leb, List, [], ◌∷◌, ◌++◌, fold, length, get_or, drop, slice_range, replicate, Some, None, Option, sym, refl, ap, ◌∙◌, ⊎_elim, add-zero, add_assoc, arith, lit<, length-take}
 use lib.Bits.{bit_xor, xor_assoc, xor_self, xor_zero_r, xor_lt, xor_shr}
+use Rattle.std.specs.Array.{IsFirstChunk}
+use Rattle.std.specs.Int.{w32, from_be_bytes, from_le_bytes}
 use Rattle.std.specs.List.{AllByRecursion}
 use Rattle.std.proofs.lemmas.Nat.{mod-pow-add}
-use Rattle.std.proofs.lemmas.List.{get_or-drop, length-drop, length-replicate}
+use Rattle.std.proofs.lemmas.List.{get_or-drop, get_or-take, take_all, length-drop, length-replicate}
 use Rattle.std.proofs.lemmas.Bool.{le-ltb, lt-leb, lt-ltb, le-leb}
 use Rattle.std.proofs.str.Laws.{order}
 use Rattle.metalog.specs.Crc.{step, steps, crc_byte, crc_of}
 use Rattle.metalog.specs.Tag.{length_of, be32, le32, be4, le4}
-use Rattle.metalog.specs.Log.{tag_at}
+use Rattle.metalog.specs.Log.{part, tag_at}
 
 -- ---- the checksum
+
+pub crc_fold : (c : ℕ) (xs : List ℕ) → fold crc_byte c xs ≡ crc_of c xs
+crc_fold c [] = refl
+crc_fold c (x ∷ xs) = crc_fold (crc_byte c x) xs
 
 pub crc_append : (c : ℕ) (xs ys : List ℕ) → crc_of c (xs ++ ys) ≡ crc_of (crc_of c xs) ys
 crc_append c [] ys = refl
@@ -37,6 +43,33 @@ be32_left b i = rw (get_or-drop i b 0 0, get_or-drop i b 1 0, get_or-drop i b 2 
 
 pub le32_left : (b : List ℕ) (i : ℕ) → le32 b (i + 4) ≡ le32 (drop i b) 4
 le32_left b i = rw (get_or-drop i b 4 0, get_or-drop i b 5 0, get_or-drop i b 6 0, get_or-drop i b 7 0, add_assoc i 4 1, add_assoc i 4 2, add_assoc i 4 3)
+
+-- the words that the first four bytes of a slice make
+module _ (xs ys : List ℕ) (f : IsFirstChunk xs ys 4) where
+  same_byte : (k : ℕ) → k < 4 → get_or ys k 0 ≡ get_or xs k 0
+  same_byte k h = ap (λ l. get_or l k 0) f.same ∙ get_or-take 4 xs k 0 h
+
+  pub be32_first : from_be_bytes w32 ys ≡ be32 xs 0
+  be32_first = rw (same_byte 0 (lit< tt), same_byte 1 (lit< tt), same_byte 2 (lit< tt), same_byte 3 (lit< tt))
+
+  pub le32_first : from_le_bytes w32 ys ≡ le32 xs 0
+  le32_first = rw (same_byte 0 (lit< tt), same_byte 1 (lit< tt), same_byte 2 (lit< tt), same_byte 3 (lit< tt))
+
+-- all of a block from a place on
+pub rest_is : (b : List ℕ) (i : ℕ) → slice_range b i (length b) ≡ drop i b
+rest_is b i = take_all (length b - i) (drop i b) (omega (arith, length-drop i b))
+
+pub part_long : (b : List ℕ) (i n : ℕ) → i + n ≤ length b → length (part b i n) ≡ n
+part_long b i n h = simp (length-take, length-drop) (omega arith)
+
+-- the word at the front of a part of a block
+pub le32_part : (b : List ℕ) (i n : ℕ) → 4 ≤ n → le32 (part b i n) 0 ≡ le32 b i
+le32_part b i n h =
+    let h0 : 0 < n = omega arith in
+    let h1 : 1 < n = omega arith in
+    let h2 : 2 < n = omega arith in
+    let h3 : 3 < n = omega arith in
+    rw (get_or-take n (drop i b) 0 0 h0, get_or-take n (drop i b) 1 0 h1, get_or-take n (drop i b) 2 0 h2, get_or-take n (drop i b) 3 0 h3, get_or-drop i b 0 0, get_or-drop i b 1 0, get_or-drop i b 2 0, get_or-drop i b 3 0, add-zero i)
 
 lines : (w a b c d : ℕ) (top mid low : ℕ) → w ≡ a * 2 ^ 24 + top → top ≡ b * 2 ^ 16 + mid → mid ≡ c * 2 ^ 8 + d → a * 2 ^ 24 + b * 2 ^ 16 + c * 2 ^ 8 + d ≡ w
 lines w a b c d top mid low e f g = omega arith
@@ -90,8 +123,11 @@ erased_word b i (suc (suc zero)) e h = absurd (omega arith)
 erased_word b i (suc (suc (suc zero))) e h = absurd (omega arith)
 erased_word b i (suc (suc (suc (suc k)))) e h = be32_left b i ∙ ap (λ l. be32 l 0) e
 
-unread : (l t : ℕ) → 2 ^ 31 ≤ t → ◌≡◌ {A = Option ℕ} (cond (ltb l 4) None (cond (leb (2 ^ 31) t) None (cond (ltb (l - 4) (length_of t)) None (Some t)))) None
+pub unread : (l t : ℕ) → 2 ^ 31 ≤ t → ◌≡◌ {A = Option ℕ} (cond (ltb l 4) None (cond (leb (2 ^ 31) t) None (cond (ltb (l - 4) (length_of t)) None (Some t)))) None
 unread l t h = rw (le-leb (2 ^ 31) t h) (elim (ltb l 4) as (λ v. ◌≡◌ {A = Option ℕ} (cond v None None) None) [ true ↦ refl | false ↦ refl ])
+
+pub unfit : (l t : ℕ) → l - 4 < length_of t → ◌≡◌ {A = Option ℕ} (cond (ltb l 4) None (cond (leb (2 ^ 31) t) None (cond (ltb (l - 4) (length_of t)) None (Some t)))) None
+unfit l t h = rw (lt-ltb (l - 4) (length_of t) h) (elim (ltb l 4) as (λ v. ◌≡◌ {A = Option ℕ} (cond v None (cond (leb (2 ^ 31) t) None None)) None) [ true ↦ refl | false ↦ elim (leb (2 ^ 31) t) as (λ v. ◌≡◌ {A = Option ℕ} (cond v None None) None) [ true ↦ refl | false ↦ refl ] ])
 
 pub short : (l t : ℕ) → l < 4 → ◌≡◌ {A = Option ℕ} (cond (ltb l 4) None (cond (leb (2 ^ 31) t) None (cond (ltb (l - 4) (length_of t)) None (Some t)))) None
 short l t h = rw (lt-ltb l 4 h)

@@ -1,7 +1,8 @@
 -- What the tests of the commit writer decide, and what its writes come to.
-use Rattle.std.proofs.Common.{◌≡◌, ℕ, suc, ◌+◌, ◌-◌, ◌*◌, ◌/◌, ◌%◌, ◌^◌, ◌<◌, Bool, true, false, cond, not, ◌&&◌, eqb, ltb, leb, List, [], ◌∷◌, ◌++◌, length, get_or, take, replicate, Some, None, Option, sym, refl, ap, ◌∙◌, subst, arith}
+use Rattle.std.proofs.Common.{◌≡◌, ℕ, suc, ◌+◌, ◌-◌, ◌*◌, ◌/◌, ◌%◌, ◌^◌, ◌<◌, Bool, true, false, cond, not, ◌&&◌, eqb, ltb, leb, List, [], ◌∷◌, ◌++◌, length, get_or, take, replicate, Some, None, Option, Ok, Err, Result, sym, refl, ap, ◌∙◌, subst, arith}
 use lib.Bits.{bit_xor}
 use Rattle.std.specs.List.{AllByRecursion}
+use Rattle.std.specs.Option.{ok_or}
 use Rattle.std.proofs.lemmas.Bool.{cond-true, cond-false, and_parts, ltb-true, eqb-false, not-true}
 use Rattle.metalog.specs.declared.writer.Unwritable.{Unwritable}
 use Rattle.metalog.specs.declared.writer.Unwritable.TheVariants.{BadTag, NoRoom}
@@ -11,6 +12,15 @@ use Rattle.metalog.specs.Log.{seed}
 use Rattle.metalog.specs.Commit.{Sound, ending, pad_of, end_with, end_bytes}
 use Rattle.metalog.specs.Writer.{Put, is_sound, tag_for, piece, put_refusal, end_refusal}
 use Rattle.metalog.proofs.Puts.{then}
+
+-- the tag that was made, or the reason why there is none
+pub made : (o : Option ℕ) (e : Unwritable) (t : ℕ) → Ok t ≡ ok_or o e → Some t ≡ o
+made None e t h = cc
+made (Some x) e t h = cc
+
+pub not_made : (o : Option ℕ) (e r : Unwritable) → ◌≡◌ {A = Result ℕ Unwritable} (Err r) (ok_or o e) → (None ≡ o) × (r ≡ e)
+not_made None e r h = (refl, cc)
+not_made (Some x) e r h = let bad : ◌≡◌ {A = ℕ} 0 1 = cc in absurd (omega arith)
 
 module _ (used long kind id n : ℕ) where
   pub bad_tag : None ≡ tag_for kind id n → put_refusal used long kind id n ≡ Some BadTag
@@ -69,7 +79,7 @@ small [] h = tt
 small (x ∷ xs) h = (h 0, small xs (λ i. h (suc i)))
 
 -- the test of an entry's fields says that it can be written
-pub sound : (kind id : ℕ) (bytes : List ℕ) → is_sound kind id (length bytes) ≡ true → ((i : ℕ) → get_or bytes i 0 < 256) → Sound (piece kind id bytes)
+pub sound : (kind id : ℕ) (bytes : List ℕ) → is_sound kind id (length bytes) ≡ true → AllByRecursion (λ x. x < 256) bytes → Sound (piece kind id bytes)
 sound kind id bytes e h =
     let front = and_parts (ltb kind (2 ^ 11)) (not (eqb (kind / 16) 0x50) && (ltb id (2 ^ 10) && ltb (length bytes) (2 ^ 10))) e in
     let b = and_parts (not (eqb (kind / 16) 0x50)) (ltb id (2 ^ 10) && ltb (length bytes) (2 ^ 10)) front.1 in
@@ -79,5 +89,5 @@ sound kind id bytes e h =
       plain = eqb-false (kind / 16) 0x50 (not-true (eqb (kind / 16) 0x50) b.0);
       id = ltb-true id (2 ^ 10) c.0;
       long = ltb-true (length bytes) (2 ^ 10) c.1;
-      small = small bytes h;
+      small = h;
     }

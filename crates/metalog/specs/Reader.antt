@@ -1,8 +1,8 @@
 -- What the values of the reader mean.
-use Rattle.std.specs.Prelude.{ℕ, cond}
+use Rattle.std.specs.Prelude.{◌≡◌, ℕ, ◌+◌, ◌≤◌, length, cond, Option, OnSome}
+use Rattle.std.specs.Option.{option_map}
 use Rattle.metalog.specs.declared.tags.Role.{Role}
 use Rattle.metalog.specs.declared.tags.Role.TheVariants.{Ends, Holds}
-use Rattle.metalog.specs.declared.tags.Tag.{Tag}
 use Rattle.metalog.specs.declared.reader.Entry as code
 use Rattle.metalog.specs.declared.reader.End as code-end
 use Rattle.metalog.specs.declared.reader.Item as code-item
@@ -11,10 +11,7 @@ use Rattle.metalog.specs.declared.reader.State.{State}
 use Rattle.metalog.specs.declared.reader.State.TheVariants as state
 use Rattle.metalog.specs.declared.reader.LogReader.{LogReader}
 use Rattle.metalog.specs.Tag.{ends_commit}
-use Rattle.metalog.specs.Log.{Entry, End, Item, held, ended, Cursor, at, nowhere, seed}
-
-abbrev pub word_of : Tag → ℕ
-word_of t = t.word
+use Rattle.metalog.specs.Log.{Entry, End, Item, held, ended, Cursor, at, nowhere, seed, step}
 
 -- the kind of a tag, as the reader matches it with its own state
 abbrev pub role_of : ℕ → Role
@@ -38,3 +35,10 @@ cursor_in i prior state.Stopped = nowhere
 
 abbrev pub cursor_of : LogReader → Cursor
 cursor_of r = cursor_in r.at r.prior r.state
+
+-- One call of a reader's `next`: what it gives, and where the reader stands afterwards. An item takes four bytes of the block at least.
+pub record Reads (old : LogReader) (result : Option code-item.Item) (new : LogReader) : Type 0 where
+  pub block : new.block.now ≡ old.block.now
+  pub item : option_map item_of result ≡ (step old.block.now (cursor_of old)).item
+  pub cursor : cursor_of new ≡ (step old.block.now (cursor_of old)).next
+  pub moves : OnSome result ((old.at + 4 ≤ new.at) × (new.at ≤ length old.block.now))

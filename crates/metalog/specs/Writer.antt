@@ -6,7 +6,7 @@ use Rattle.metalog.specs.declared.writer.Unwritable.{Unwritable}
 use Rattle.metalog.specs.declared.writer.Unwritable.TheVariants.{BadTag, NoRoom}
 use Rattle.metalog.specs.Tag.{be4, le4}
 use Rattle.metalog.specs.Laws.{first_bytes}
-use Rattle.metalog.specs.Commit.{Piece, Sound, tag_of, body, last_of, pad_of, end_bytes, encode}
+use Rattle.metalog.specs.Commit.{Piece, Sound, tag_of, pad_of, end_bytes, encode}
 
 -- c is b with xs written at i
 pub record Put (b c : List ℕ) (i : ℕ) (xs : List ℕ) : Type 0 where
@@ -37,14 +37,14 @@ end_refusal used long = cond (nat_le (used + (8 + pad_of used)) long) None (Some
 abbrev pub piece : ℕ → ℕ → List ℕ → Piece
 piece kind id bytes = record { kind = kind; id = id; bytes = bytes }
 
--- One entry more: the buffer b, of which `used` bytes are written, the last tag `prior`, and afterwards c, `used'` and `prior'`. A refused one changes nothing.
-abbrev pub Puts : {T : Type 0} → List ℕ → ℕ → ℕ → ℕ → ℕ → List ℕ → Result T Unwritable → List ℕ → ℕ → ℕ → Type 0
-Puts b used prior kind id bytes (Ok _) c used' prior' =
-    (put_refusal used (length b) kind id (length bytes) ≡ None) × Sound (piece kind id bytes)
-    × Put b c used (be4 (bit_xor (tag_of (piece kind id bytes)) prior) ++ bytes)
-    × (used' ≡ used + (4 + length bytes)) × (prior' ≡ tag_of (piece kind id bytes))
-Puts b used prior kind id bytes (Err e) c used' prior' =
-    (put_refusal used (length b) kind id (length bytes) ≡ Some e) × (c ≡ b) × (used' ≡ used) × (prior' ≡ prior)
+-- The entry p more: the buffer b, of which `used` bytes are written, the last tag `prior`, and afterwards c, `used'` and `prior'`. A refused one changes nothing.
+abbrev pub Puts : {T : Type 0} → List ℕ → ℕ → ℕ → Piece → Result T Unwritable → List ℕ → ℕ → ℕ → Type 0
+Puts b used prior p (Ok _) c used' prior' =
+    (put_refusal used (length b) p.kind p.id (length p.bytes) ≡ None) × Sound p
+    × Put b c used (be4 (bit_xor (tag_of p) prior) ++ p.bytes)
+    × (used' ≡ used + (4 + length p.bytes)) × (prior' ≡ tag_of p)
+Puts b used prior p (Err e) c used' prior' =
+    (put_refusal used (length b) p.kind p.id (length p.bytes) ≡ Some e) × (c ≡ b) × (used' ≡ used) × (prior' ≡ prior)
 
 -- The end of a commit, and where it is. A refused one changes nothing.
 abbrev pub Ends : List ℕ → ℕ → ℕ → Result ℕ Unwritable → List ℕ → Type 0
@@ -70,18 +70,6 @@ write_refusal used long (p ∷ ps) = or_else (put_refusal used long p.kind p.id 
 pub record Partly (b c : List ℕ) (i : ℕ) (xs : List ℕ) : Type 0 where
   pub many : ℕ
   pub put : Put b c i (take many xs)
-
--- The entries ps, up to the first that is refused.
-abbrev pub PutsAll : {T : Type 0} → List ℕ → ℕ → ℕ → List Piece → Result T Unwritable → List ℕ → ℕ → ℕ → Type 0
-PutsAll b used prior ps (Ok _) c used' prior' =
-    (write_refusal used (length b) ps ≡ end_refusal used' (length b)) × AllByRecursion Sound ps
-    × Put b c used (body prior ps) × (used' ≡ used + length (body prior ps)) × (prior' ≡ last_of prior ps)
-PutsAll b used prior ps (Err e) c used' prior' = (write_refusal used (length b) ps ≡ Some e) × Partly b c used (body prior ps)
-
--- The end of a commit, unless an entry of it was refused before.
-abbrev pub Concludes : {T : Type 0} → List ℕ → ℕ → ℕ → Result T Unwritable → Result ℕ Unwritable → List ℕ → Type 0
-Concludes b used prior (Ok _) r c = Ends b used prior r c
-Concludes b used prior (Err e) r c = (r ≡ Err e) × (c ≡ b)
 
 -- A commit of the entries ps behind what is used of the buffer b: the answer is its end. Where it is refused, no more than some first bytes of it are written.
 abbrev pub Writes : List ℕ → ℕ → ℕ → List Piece → Result ℕ Unwritable → List ℕ → Type 0

@@ -53,9 +53,5 @@ fn crc_byte(sum: u32, byte: u8) -> u32
 pub fn crc(sum: u32, bytes: &[u8]) -> u32
     ensures { result ≡ crc_of sum bytes.now }
 {
-    let mut sum = sum;
-    for byte in bytes {
-        sum = crc_byte(sum, *byte);
-    }
-    sum
+    bytes.iter().fold(sum, |sum, byte| crc_byte(sum, *byte))
 }

@@ -2,6 +2,7 @@
 ghost use Rattle.std.specs.Prelude.{◌≡◌};
 ghost use Rattle.metalog.specs.Revision.{newer, following};
 
+// No Ord: the order goes round, so of three revisions each may be newer than the next.
 #[derive(Clone, Copy, PartialEq, Eq, Debug)]
 pub struct Revision {
     pub word: u32,
@@ -13,7 +14,7 @@ impl Revision {
         ensures { result ≡ newer self.word other.word }
     {
         let ahead = self.word.wrapping_sub(other.word);
-        ahead >= 1 && ahead < 0x8000_0000
+        (1..0x8000_0000).contains(&ahead)
     }
 
     // The revision of the block that is written next.

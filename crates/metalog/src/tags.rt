@@ -1,16 +1,16 @@
 // A decoded tag: what it is, which entry it is about, and how many bytes of data lie behind it.
-ghost use Rattle.std.specs.Prelude.{◌≡◌, ◌+◌, ◌≤◌, Bool, length};
+ghost use Rattle.std.specs.Prelude.{◌≡◌};
 ghost use Rattle.metalog.specs.Reader.{role_of};
-ghost use Rattle.metalog.specs.Tag.{type_of, id_of, length_of, ends_commit, next_prior, be32, le32};
+ghost use Rattle.metalog.specs.Tag.{type_of, id_of, length_of, ends_commit, next_prior};
 
 // What a tag does to the commit in which it stands.
-#[derive(Clone, Copy)]
+#[derive(Clone, Copy, PartialEq, Eq, Debug)]
 pub(crate) enum Role {
     Holds,
     Ends,
 }
 
-#[derive(Clone, Copy)]
+#[derive(Clone, Copy, PartialEq, Eq, Debug)]
 pub(crate) struct Tag {
     pub word: u32,
 }
@@ -37,7 +37,7 @@ impl Tag {
     pub(crate) fn ends_commit(self) -> bool
         ensures { result ≡ ends_commit self.word }
     {
-        self.kind() == 0x500 || self.kind() == 0x501
+        matches!(self.kind(), 0x500 | 0x501)
     }
 
     pub(crate) fn role(self) -> Role
@@ -60,20 +60,4 @@ impl Tag {
             self.word
         }
     }
-}
-
-// The word at an offset, as tags are stored.
-pub(crate) fn big_endian(bytes: &[u8], at: usize) -> u32
-    requires { at + 4 ≤ length bytes.now }
-    ensures { result ≡ be32 bytes.now at }
-{
-    u32::from_be_bytes([bytes[at], bytes[at + 1], bytes[at + 2], bytes[at + 3]])
-}
-
-// The word at an offset, as everything but tags is stored.
-pub(crate) fn little_endian(bytes: &[u8], at: usize) -> u32
-    requires { at + 4 ≤ length bytes.now }
-    ensures { result ≡ le32 bytes.now at }
-{
-    u32::from_le_bytes([bytes[at], bytes[at + 1], bytes[at + 2], bytes[at + 3]])
 }

@@ -1,3 +1,2 @@
--- Lemmas of the benchmark's functions.
--- What a loop over a log reader keeps of the total.
-pub mod Turns
+-- The total of a log, one item after the other.
+pub mod Sums

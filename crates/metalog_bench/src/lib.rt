@@ -43,10 +43,5 @@ fn weight(item: Item<'_>) -> u64
 pub extern "C" fn metalog_total(block: &[u8]) -> u64
     ensures { result ≡ total_of (items_of block.now) % 2 ^ 64 }
 {
-    let mut reader = LogReader::new(block);
-    let mut total: u64 = 0;
-    while let Some(item) = reader.next() {
-        total = total.wrapping_add(weight(item));
-    }
-    total
+    LogReader::new(block).fold(0, |total, item| total.wrapping_add(weight(item)))
 }

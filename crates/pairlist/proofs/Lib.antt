@@ -4,6 +4,7 @@ pub mod Walking
 pub mod Searching
 pub mod Globals
 pub mod Stepping
+pub mod Numbering
 pub mod Rereading
 pub mod Loading
 pub mod Visiting

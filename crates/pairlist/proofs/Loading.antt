@@ -4,7 +4,7 @@ use Rattle.std.proofs.lemmas.Bool.{and_parts, or_cases, eqb-true, leb-true}
 use Rattle.std.specs.List.{slice_get}
 use Rattle.flash.specs.Card.{Card, Shaped}
 use Rattle.pairs.specs.Pairs.{pair_at}
-use Rattle.pairs.proofs.Blocks.{pair_at_lem}
+use Rattle.pairs.proofs.Choosing.{pair_at_lem}
 use Rattle.volume.specs.Check.{is_size}
 use Rattle.volume.specs.Pair.{Pair}
 use Rattle.volume.specs.Rows.{Row, no_row, rows_of}
@@ -49,14 +49,14 @@ module _ (c : Card) (ps : List Pair) (l : PairList) (k : ℕ) (p : Pair) (listed
   row_stays none = row_missing (rows_in l) k (omega (arith, ap length listed.rows, length_rows 0 true ps, (pair_there ps k p there).0)) none
 
   -- by its row it is read again
-  pub row_reads : Shaped c → (r : code.Row) → Some (row_for r) ≡ slice_get (rows_in l) k → pair_at c r.a r.b ≡ Ok p
+  pub row_reads : Shaped c → (r : code.Row) → Some (row_for r) ≡ slice_get (rows_in l) k → pair_at c r.pair.first r.pair.second ≡ Ok p
   row_reads s r e =
       let q = pair_there ps k p there in
       let row = (row_there (rows_in l) k (row_for r) e).1 in
       let told = row_at 0 true ps k no_pair q.0 in
       let same : row_for r ≡ get_or (rows_of ps) k no_row = sym row ∙ ap (λ rs. get_or rs k no_row) listed.rows in
-      let is_a : r.a ≡ p.a = ap (λ (x : Row). x.a) same ∙ told.a ∙ ap (λ (x : Pair). x.a) q.1 in
-      let is_b : r.b ≡ p.b = ap (λ (x : Row). x.b) same ∙ told.b ∙ ap (λ (x : Pair). x.b) q.1 in
+      let is_a : r.pair.first ≡ p.a = ap (λ (x : Row). x.a) same ∙ told.a ∙ ap (λ (x : Pair). x.a) q.1 in
+      let is_b : r.pair.second ≡ p.b = ap (λ (x : Row). x.b) same ∙ told.b ∙ ap (λ (x : Pair). x.b) q.1 in
       let size = sizes c.size (length c.blocks) listed.card.sized in
       let again = list_rereads c ps k p s (omega (arith, size.1.1.0)) listed.list there in
-      ap (λ x. pair_at c x r.b) is_a ∙ ap (pair_at c p.a) is_b ∙ pair_at_lem c p.a p.b listed.card.bright size.0 again.first again.second ∙ again.read
+      ap (λ x. pair_at c x r.pair.second) is_a ∙ ap (pair_at c p.a) is_b ∙ pair_at_lem c p.a p.b listed.card.bright size.0 again.first again.second ∙ again.read

@@ -1,5 +1,5 @@
 -- A list of pairs as it is kept of a card, and the pair of it that lies on the desk.
-use Rattle.std.specs.Prelude.{◌≡◌, ℕ, ◌≤◌, Bool, false, List, length, Some, None, Ok, Err, Option, Result, ◌==◌}
+use Rattle.std.specs.Prelude.{◌≡◌, ℕ, ◌≤◌, List, length, Some, None, Ok, Err, Option, Result}
 use Rattle.std.specs.List.{slice_get}
 use Rattle.flash.specs.Card.{Card}
 use Rattle.pairs.specs.Pairs.{state_in}
@@ -24,11 +24,6 @@ pub record Listed (c : Card) (ps : List Pair) (l : PairList) : Type 0 where
 abbrev pub Lies : List Pair → Option ℕ → PairReader → Type 0
 Lies ps None s = Unit {0}
 Lies ps (Some k) s = (p : Pair) × ((slice_get ps k ≡ Some p) × (state_in s ≡ p.state))
-
--- whether a place is the one that is kept
-abbrev pub is_place : Option ℕ → ℕ → Bool
-is_place None k = false
-is_place (Some j) k = j == k
 
 -- what is on the desk is a pair of the list
 abbrev pub OnDesk : List Pair → Desk → Type 0

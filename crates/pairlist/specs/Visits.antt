@@ -1,7 +1,8 @@
 -- One pair of the list: what it is, or what is wrong with it, and where the list goes on.
-use Rattle.std.specs.Prelude.{◌≡◌, ℕ, ◌<◌, true, false, List, length, Some, None, Ok, Err, Option, Result}
+use Rattle.std.specs.Prelude.{◌≡◌, ℕ, ◌<◌, Bool, true, false, List, length, Some, None, Ok, Err, Option, Result}
 use Rattle.flash.specs.Card.{Card}
 use Rattle.pairs.specs.Slots as slots
+use Rattle.pairs.specs.declared.entry.Tail.{Tail}
 use Rattle.volume.specs.Check.{is_size, hardly}
 use Rattle.volume.specs.Global as global
 use Rattle.volume.specs.Pair.{Pair, fault, read_pair}
@@ -35,16 +36,26 @@ visited_by c seen (Ok p) = allowed (pair_fault c seen p) p
 abbrev pub visited : Card → List ℕ → ℕ → ℕ → Result Pair Fault
 visited c seen a b = visited_by c seen (read_pair c a b)
 
+-- it goes on, unless something is wrong
+abbrev pub ok_unless : Option What → Result (Unit {0}) What
+ok_unless None = Ok tt
+ok_unless (Some w) = Err w
+
 -- where the list goes on, as it is kept
-abbrev pub next_for : Option (ℕ × ℕ) → Next
+abbrev pub next_for : Option Tail → Next
 next_for None = ends
-next_for (Some n) = goes n.0 n.1
+next_for (Some t) = goes t.pair.first t.pair.second
+
+-- whether it goes on in the same directory
+abbrev pub hard_for : Option Tail → Bool
+hard_for None = false
+hard_for (Some t) = t.hard
 
 -- what a visit keeps of a pair
 pub record VisitAs (v : Visit) (p : Pair) : Type 0 where
   pub block : v.block ≡ p.block
   pub count : v.count ≡ length p.state.entries
-  pub hard : v.hard ≡ hardly p.state.tail
+  pub hard : hard_for v.next ≡ hardly p.state.tail
   pub next : next_for v.next ≡ next_of p.state.tail
   pub moves : slots.moves_of v.moves ≡ global.moves_of p.state.moves
 

@@ -1,8 +1,10 @@
 -- The walk of the whole list: what it answers, and what it leaves.
 use Rattle.std.specs.Prelude.{◌≡◌, ℕ, cond, List, [], ◌∷◌, length, Ok, Err, Result}
+use Rattle.blockset.specs.Holds.{Inserted}
 use Rattle.blockset.specs.declared.BlockSet.{BlockSet}
 use Rattle.flash.specs.Card.{Card, is_good}
 use Rattle.pairs.specs.Slots as slots
+use Rattle.pairs.specs.declared.entry.Blocks.{Blocks}
 use Rattle.pairs.specs.declared.entry.Moves.{Moves}
 use Rattle.volume.specs.Check.{is_size, pair_blocks}
 use Rattle.volume.specs.Global.{global_of}
@@ -32,10 +34,14 @@ Enters c (Err f) = list_of c ≡ Err f
 abbrev pub root : List ℕ
 root = 0 ∷ 1 ∷ []
 
+-- a set with both blocks of a pair more
+abbrev pub Marked : BlockSet → Blocks → BlockSet → Type 0
+Marked s p u = (t : BlockSet) × (Inserted s p.first t × Inserted t p.second u)
+
 -- a walk is about to begin: no pair is listed, and the blocks of the root serve
 pub record Ready (c : Card) (l : PairList) (s : BlockSet) : Type 0 where
   pub card : Readable c
-  pub none : l.count ≡ 0
+  pub none : l.rows.items ≡ []
   pub marks : Marks s root
 
 -- what a walk leaves: the rows of the pairs, the global state, and the blocks of the pairs in the set

@@ -3,7 +3,7 @@ ghost use Rattle.std.specs.Prelude.{◌≡◌, ℕ, List, Some};
 ghost use Rattle.std.specs.List.{slice_get};
 ghost use Rattle.volume.specs.Pair.{Pair};
 ghost use Rattle.pairlist.specs.Walks.{Walks};
-ghost use Rattle.pairlist.specs.Desks.{Listed, OnDesk, Loads, is_place};
+ghost use Rattle.pairlist.specs.Desks.{Listed, OnDesk, Loads};
 
 use crate::rows::PairList;
 use blockset::BlockSet;
@@ -43,16 +43,6 @@ impl Desk {
         list.walk(device, &mut self.pairs, used)
     }
 
-    // Whether the pair at a place of the list lies here.
-    fn has(&self, place: usize) -> bool
-        ensures { result ≡ is_place self.now.place place }
-    {
-        match self.place {
-            Some(here) => here == place,
-            None => false,
-        }
-    }
-
     // Reads the pair at a place of the list, unless it lies here.
     pub fn load<D: ReadableDevice>(
         &mut self,
@@ -62,18 +52,12 @@ impl Desk {
     ) -> Result<(), Fault>
         ensures { (ps : List Pair) (p : Pair) → Listed (D.meaning device.now) ps list.now → OnDesk ps self.old → slice_get ps place ≡ Some p → Loads ps place p result self.new }
     {
-        if self.has(place) {
+        if self.place == Some(place) {
             return Ok(());
         }
-        let Some(row) = list.row(place) else {
-            return Err(Fault {
-                what: What::Directory,
-                block: 0,
-                byte: 0,
-            });
-        };
+        let row = list.row(place).ok_or(What::Directory.at(0, 0))?;
         self.place = None;
-        self.pairs.read(device, row.a, row.b)?;
+        self.pairs.read(device, row.pair)?;
         self.place = Some(place);
         Ok(())
     }

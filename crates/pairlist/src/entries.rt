@@ -7,33 +7,27 @@ ghost use Rattle.pairlist.specs.Rows.{rows_in};
 use crate::rows::PairList;
 
 // An entry of the list: the place of its pair in the list, and its id.
-#[derive(Clone, Copy)]
+#[derive(Clone, Copy, Debug, PartialEq, Eq)]
 pub struct Spot {
     pub row: usize,
     pub id: u32,
 }
 
+// The superblock is the first entry of the root.
+const SUPERBLOCK: Spot = Spot { row: 0, id: 0 };
+
 // Whether an entry is none of the tree: the superblock, or what is hidden.
-fn is_left(hidden: Option<Spot>, row: usize, id: u32) -> bool
-    ensures { result ≡ is_left (hiding_for hidden) row id }
+fn is_left(hidden: Option<Spot>, spot: Spot) -> bool
+    ensures { result ≡ is_left (hiding_for hidden) spot.row spot.id }
 {
-    let root = row == 0 && id == 0;
-    match hidden {
-        Some(spot) => (spot.row == row && spot.id == id) || root,
-        None => root,
-    }
+    hidden == Some(spot) || spot == SUPERBLOCK
 }
 
 // The next id of a pair that is an entry of the tree.
 fn next_id(hidden: Option<Spot>, row: usize, from: u32, count: u32) -> Option<u32>
     ensures { NextId (hiding_for hidden) row from count result }
 {
-    for id in from..count {
-        if !is_left(hidden, row, id) {
-            return Some(id);
-        }
-    }
-    None
+    (from..count).find(|id| !is_left(hidden, Spot { row, id: *id }))
 }
 
 impl PairList {
@@ -42,10 +36,9 @@ impl PairList {
         ensures { NextEntry (hiding_for hidden) (rows_in self.now) from.row from.id result }
     {
         let mut id = from.id;
-        for at in from.row..self.count() {
-            let row = self.row(at)?;
-            if let Some(id) = next_id(hidden, at, id, row.count) {
-                return Some(Spot { row: at, id });
+        for (place, row) in self.rows.iter().enumerate().skip(from.row) {
+            if let Some(id) = next_id(hidden, place, id, row.count) {
+                return Some(Spot { row: place, id });
             }
             if !row.hard {
                 return None;

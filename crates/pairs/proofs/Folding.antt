@@ -1,7 +1,8 @@
 -- What one turn of the loop that makes a table keeps: what is still to be read makes the whole of what the table stands for.
-use Rattle.std.proofs.Common.{◌≡◌, ℕ, suc, ◌+◌, ◌-◌, ◌/◌, ◌<◌, ◌≤◌, max, true, false, eqb, ltb, List, [], ◌∷◌, ◌++◌, length, take, drop, Some, None, sym, refl, ap, ◌∙◌, ⊎_elim, arith, length-drop, length-take}
+use Rattle.std.proofs.Common.{◌≡◌, ℕ, suc, ◌+◌, ◌-◌, ◌/◌, ◌<◌, ◌≤◌, max, true, false, eqb, ltb, List, [], ◌∷◌, ◌++◌, length, take, drop, Some, None, Ok, Err, Result, sym, refl, ap, ◌∙◌, arith, length-drop, length-take}
+use Rattle.std.specs.Result.{is_ok}
 use Rattle.std.proofs.lemmas.List.{drop-append-le, take-append-le}
-use Rattle.std.proofs.lemmas.Bool.{cond-true, cond-false, eq-eqb, ne_eqb, le-ltb, cases_lt}
+use Rattle.std.proofs.lemmas.Bool.{cond-true, cond-false, eq-eqb, ne_eqb, le-ltb}
 use Rattle.metalog.specs.Tag.{id_of, length_of}
 use Rattle.metalog.specs.Crc.{crc_of}
 use Rattle.metalog.specs.Log as log
@@ -10,7 +11,7 @@ use Rattle.metalog.specs.Reader.{cursor_in, cursor_of}
 use Rattle.metalog.specs.declared.reader.State as reader
 use Rattle.metalog.specs.declared.reader.State.TheVariants as states
 use Rattle.metalog.specs.declared.reader.LogReader.{LogReader}
-use Rattle.metalog.proofs.Logs.{short_block}
+use Rattle.metalog.proofs.Logs.{room}
 use Rattle.metalog.proofs.Paths.{nowhere_halts}
 use Rattle.metalog.proofs.Turns.{Gave, items_gave, items_none}
 use Rattle.metalog.proofs.Views as views
@@ -19,6 +20,7 @@ use Rattle.volume.specs.State as volume
 use Rattle.volume.specs.State.{State, start, state, wrong, apply, fold_items, finished, no_id}
 use Rattle.volume.specs.Pair.{finished_of}
 use Rattle.pairs.specs.declared.table.Table.{Table}
+use Rattle.pairs.specs.declared.tags.Misplaced.{Misplaced}
 use Rattle.pairs.specs.Tables.{state_of}
 use Rattle.pairs.specs.Changes.{Applies}
 use Rattle.pairs.proofs.Ends.{ends_in, ends_commits, finished_held, finished_none}
@@ -95,7 +97,7 @@ fold_all s = refl
 pub record Room (i : ℕ) (t : Table) : Type 0 where
   pub begun : 4 ≤ i
   pub short : i ≤ 4096
-  pub few : t.count ≤ 1023 + i / 4
+  pub few : length t.entries.items ≤ 1023 + i / 4
 
 -- At the place i, with `left` commits still to end, the rest of the log makes the whole state out of that of the table,
 -- whatever stands behind the block.
@@ -113,14 +115,14 @@ first_place b i prior (states.Inside sum) is le = let k = is ∙ cond-false (ltb
 first_place b i prior states.Ended is le = let k = is ∙ cond-false (ltb (length b) 4) nowhere (at 4 first_prior (crc_of seed (take 4 b))) (le-ltb (length b) 4 le) in cc
 first_place b i prior states.Stopped is le = let k = is ∙ cond-false (ltb (length b) 4) nowhere (at 4 first_prior (crc_of seed (take 4 b))) (le-ltb (length b) 4 le) in cc
 
-pub at_start : (b : List ℕ) (r : LogReader) (left : ℕ) (t : Table) → cursor_of r ≡ log.start b → left ≡ length (commits_of [] (items_of b)) → t.count ≡ 0 → t.tail ≡ None → t.moves ≡ None → Sofar b (cursor_of r) r.at left t
-at_start b r left t is commits count tail moves = record {
+pub at_start : (b : List ℕ) (r : LogReader) (left : ℕ) (t : Table) → cursor_of r ≡ log.start b → left ≡ length (commits_of [] (items_of b)) → t.entries.items ≡ [] → t.tail ≡ None → t.moves ≡ None → Sofar b (cursor_of r) r.at left t
+at_start b r left t is commits blank tail moves = record {
   fuel = length b;
   enough = omega arith;
   room = λ some.
-      let long : 4 ≤ length b = ⊎_elim (λ lt. absurd (omega (arith, some, commits, ap (λ xs. length (commits_of [] xs)) (short_block b lt)))) (λ le. le) (cases_lt (length b) 4) in
+      let long = room b (omega (arith, some, commits)) in
       let four = first_place b r.at r.prior r.state is long in
-      record { begun = omega arith; short = omega arith; few = omega (arith, count) };
+      record { begun = omega arith; short = omega arith; few = omega (arith, ap length blank) };
   ends = ap (λ k. ends_in (items (length b) b k)) is ∙ sym (commits ∙ ends_commits [] (items_of b));
   whole = λ rest. ap (λ k. fold_items (state_of (b ++ rest) t) (finished (items (length b) b k))) is ∙ ap (λ (s : State). fold_items s (finished_of b)) (cc);
 }
@@ -132,7 +134,7 @@ module _ (b : List ℕ) (c d : Cursor) (i j left : ℕ) (t : Table) (small : len
       let ends : ends_in (items (s.fuel - 1) b d) ≡ left = sym (ap ends_in more) ∙ s.ends in
       ap finished more ∙ finished_held e (items (s.fuel - 1) b d) (omega (arith, ends))
 
-  pub after_held : (e : Entry) (u : Table) → Gave b c d i j (held e) → 0 < left → Applies t e true u → u.count ≤ max (t.count + 1) 1024 → Sofar b d j left u
+  pub after_held : (e : Entry) (u : Table) → Gave b c d i j (held e) → 0 < left → Applies t e (Ok tt) u → length u.entries.items ≤ max (length t.entries.items + 1) 1024 → Sofar b d j left u
   after_held e u g some change few = record {
     fuel = s.fuel - 1;
     enough = omega (arith, s.enough, g.moves.0);
@@ -143,7 +145,7 @@ module _ (b : List ℕ) (c d : Cursor) (i j left : ℕ) (t : Table) (small : len
         sym (ap (fold_items (state_of (b ++ rest) t)) (held_more e g some) ∙ fold_held (state_of (b ++ rest) t) (state_of (b ++ rest) u) e _ does) ∙ s.whole rest;
   }
 
-  pub at_held_wrong : (e : Entry) (u : Table) → Gave b c d i j (held e) → 0 < left → Applies t e false u → fold_items start (finished_of b) ≡ wrong e.offset
+  pub at_held_wrong : (e : Entry) (u : Table) → Gave b c d i j (held e) → 0 < left → Applies t e (Err (record {})) u → fold_items start (finished_of b) ≡ wrong e.offset
   at_held_wrong e u g some change =
       let does = change (b ++ []) (stands_behind b [] e (stands b c e g.item)) in
       sym (s.whole []) ∙ ap (fold_items (state_of (b ++ []) t)) (held_more e g some) ∙ fold_wrong (state_of (b ++ []) t) e _ does
@@ -171,3 +173,13 @@ module _ (b : List ℕ) (c d : Cursor) (i j left : ℕ) (t : Table) (small : len
 
   pub at_none : None ≡ (step b c).item → (rest : List ℕ) → fold_items start (finished_of b) ≡ state (state_of (b ++ rest) t)
   at_none none = at_end (ap ends_in (items_none s.fuel b c (sym none)))
+
+-- ---- what an applied tag answered
+
+pub applied_ok : (t u : Table) (e : Entry) (r : Result (Unit {0}) Misplaced) → true ≡ is_ok r → Applies t e r u → Applies t e (Ok tt) u
+applied_ok t u e (Ok x) is a = a
+applied_ok t u e (Err w) is a = absurd (cc)
+
+pub applied_err : (t u : Table) (e : Entry) (r : Result (Unit {0}) Misplaced) → false ≡ is_ok r → Applies t e r u → Applies t e (Err (record {})) u
+applied_err t u e (Ok x) is a = absurd (cc)
+applied_err t u e (Err w) is a = a

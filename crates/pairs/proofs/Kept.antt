@@ -1,29 +1,18 @@
 -- What a reader of pairs answers of what it holds.
-use Rattle.std.proofs.Common.{◌≡◌, ℕ, ◌+◌, ◌-◌, ◌<◌, ◌≤◌, min, List, [], ◌∷◌, ◌++◌, map, length, get_or, take, drop, Some, None, sym, ap, ◌∙◌, ⊎_elim, arith, length-drop, length-take}
-use Rattle.std.specs.List.{slice_get}
-use Rattle.std.proofs.lemmas.List.{take_all, drop_all, get_or-take, get_or-map, map_more}
-use Rattle.std.proofs.lemmas.Option.{slice_get-get_or, slice_get_past}
+use Rattle.std.proofs.Common.{◌≡◌, ℕ, ◌-◌, ◌<◌, ◌≤◌, min, List, [], ◌∷◌, map, length, take, drop, Some, None, Option, sym, refl, ap, ◌∙◌, ⊎_elim, arith, length-drop, length-take}
+use Rattle.std.specs.List.{sum_by}
+use Rattle.std.specs.Option.{option_map}
+use Rattle.std.proofs.lemmas.List.{take_all, drop_all}
+use Rattle.std.proofs.lemmas.List.Sums.{sum_by-cons}
 use Rattle.std.proofs.lemmas.Bool.{cases_lt}
 use Rattle.metalog.specs.Log.{part}
-use Rattle.volume.specs.State.{Slot, blank, name_long, content_long, size_of}
+use Rattle.volume.specs.State.{name_long, content_long, size_of}
 use Rattle.pairs.specs.declared.entry.Entry.{Entry}
-use Rattle.pairs.specs.declared.table.Table.{Table}
-use Rattle.pairs.specs.Slots.{slot_of, none}
-use Rattle.pairs.specs.Tables.{entries_in, state_of}
-use Rattle.pairs.proofs.Growth.{length_entries}
-use Rattle.pairs.proofs.Maps.{count_state}
-
-module _ (b : List ℕ) (t : Table) (i : ℕ) where
-  -- the entry with an id
-  pub entry_there : i < t.count → Some (slot_of b (get_or t.slots i none)) ≡ slice_get (state_of b t).entries i
-  entry_there lt =
-      let there : i < length (entries_in t) = omega (arith, length_entries t) in
-      let among : i < length (state_of b t).entries = omega (arith, count_state b t) in
-      let read : get_or (state_of b t).entries i blank ≡ slot_of b (get_or t.slots i none) = get_or-map (slot_of b) (entries_in t) i none blank there ∙ ap (slot_of b) (get_or-take t.count t.slots i none lt) in
-      sym (slice_get-get_or (state_of b t).entries i blank among ∙ ap Some read)
-
-  pub entry_past : t.count ≤ i → None ≡ slice_get (state_of b t).entries i
-  entry_past le = sym (slice_get_past (state_of b t).entries i (omega (arith, count_state b t)))
+use Rattle.pairs.specs.declared.entry.Name.{Name}
+use Rattle.pairs.specs.declared.entry.Content.{Content}
+use Rattle.pairs.specs.declared.entry.Content.TheVariants.{Pair, Inline, SkipList}
+use Rattle.pairs.specs.Slots.{slot_of, name_of, content_of}
+use Rattle.pairs.specs.Sizes.{name_size, content_size, entry_size}
 
 -- a place of which only what lies in the list counts
 pub part_clipped : (xs : List ℕ) (n at k : ℕ) → length xs ≡ n → take (min k (n - at)) (drop (min at n) xs) ≡ part xs at k
@@ -48,11 +37,18 @@ part_clipped xs n at k long = ⊎_elim
 pub part_long : (xs : List ℕ) (n at k : ℕ) → length xs ≡ n → min k (n - at) ≡ length (part xs at k)
 part_long xs n at k long = simp (length-take, length-drop) (omega arith)
 
--- one entry more
-pub size_push : (xs : List Slot) (x : Slot) → size_of (xs ++ x ∷ []) ≡ size_of xs + (8 + name_long x.name + content_long x.content)
-size_push [] x = omega arith
-size_push (y ∷ xs) x = omega (arith, size_push xs x)
+module _ (b : List ℕ) (whole : length b ≡ 4096) where
+  name_size-is : (o : Option Name) → name_size o ≡ name_long (option_map (name_of b) o)
+  name_size-is None = refl
+  name_size-is (Some n) = part_long b 4096 n.span.at n.span.length whole
 
-pub size_more : (b : List ℕ) (xs : List Entry) (i n : ℕ) → i < length xs → n ≡ 8 + name_long (slot_of b (get_or xs i none)).name + content_long (slot_of b (get_or xs i none)).content → size_of (map (slot_of b) (take (i + 1) xs)) ≡ size_of (map (slot_of b) (take i xs)) + n
-size_more b xs i n lt is =
-    ap size_of (map_more (slot_of b) xs i none lt) ∙ size_push (map (slot_of b) (take i xs)) (slot_of b (get_or xs i none)) ∙ ap (λ k. size_of (map (slot_of b) (take i xs)) + k) (sym is)
+  content_size-is : (o : Option Content) → content_size o ≡ content_long (option_map (content_of b) o)
+  content_size-is None = refl
+  content_size-is (Some (Pair p)) = refl
+  content_size-is (Some (Inline s)) = part_long b 4096 s.at s.length whole
+  content_size-is (Some (SkipList head size)) = refl
+
+  -- the size of entries is a sum over them
+  pub sizes-is : (es : List Entry) → sum_by entry_size es ≡ size_of (map (slot_of b) es)
+  sizes-is [] = refl
+  sizes-is (e ∷ es) = omega (arith, sum_by-cons entry_size e es, name_size-is e.name, content_size-is e.content, sizes-is es)

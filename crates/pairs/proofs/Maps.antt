@@ -11,8 +11,7 @@ use Rattle.pairs.specs.declared.entry.Content.{Content}
 use Rattle.pairs.specs.declared.entry.Entry.{Entry}
 use Rattle.pairs.specs.declared.table.Table.{Table}
 use Rattle.pairs.specs.Slots.{slot_of, name_of, content_of, none}
-use Rattle.pairs.specs.Tables.{entries_in, state_of, grown_to, called, holding, Edited}
-use Rattle.pairs.proofs.Growth.{length_entries}
+use Rattle.pairs.specs.Tables.{state_of, grown_to, called, holding, Edited}
 
 module _ (b : List ℕ) where
   pub map_inserted : (es : List Entry) (i : ℕ) → map (slot_of b) (insert es i none) ≡ volume.inserted (map (slot_of b) es) i
@@ -49,5 +48,5 @@ module _ (b : List ℕ) where
   pub edited_state : (t u : Table) (es : List Entry) → Edited t u es → state_of b u ≡ with_entries (state_of b t) (map (slot_of b) es)
   edited_state t u es e = let x = e.entries in let y = e.tail in let z = e.moves in cc
 
-  pub count_state : (t : Table) → length (state_of b t).entries ≡ t.count
-  count_state t = length-map (entries_in t) (slot_of b) ∙ length_entries t
+  pub count_state : (t : Table) → length (state_of b t).entries ≡ length t.entries.items
+  count_state t = length-map t.entries.items (slot_of b)

@@ -10,18 +10,19 @@ use Rattle.volume.specs.State.{State, Folded}
 use Rattle.volume.specs.Pair as volume
 use Rattle.volume.specs.Pair.{Pair, fault, judged, read_pair}
 use Rattle.volume.specs.declared.fault.Fault.{Fault}
-use Rattle.volume.specs.declared.fault.What.TheVariants.{Size}
-use Rattle.pairs.specs.declared.choice.Choice as code
-use Rattle.pairs.specs.declared.choice.Choice.TheVariants as choice
+use Rattle.volume.specs.declared.fault.What.{What}
+use Rattle.volume.specs.declared.fault.What.TheVariants.{Size, NoCommit, NoNewer}
+use Rattle.pairs.specs.declared.choice.Side.{Side}
+use Rattle.pairs.specs.declared.choice.Side.TheVariants.{First, Second}
 use Rattle.pairs.specs.declared.pair.PairReader.{PairReader}
 use Rattle.pairs.specs.Tables.{state_of}
 
--- which block of a pair counts
-abbrev pub choice_for : code.Choice → volume.Choice
-choice_for choice.First = volume.first
-choice_for choice.Second = volume.second
-choice_for choice.NoCommit = volume.no_commit
-choice_for choice.NoNewer = volume.no_newer
+-- the block of a pair that counts, or what is wrong, as the code has it
+abbrev pub side_for : volume.Choice → Result Side What
+side_for volume.first = Ok First
+side_for volume.second = Ok Second
+side_for volume.no_commit = Err NoCommit
+side_for volume.no_newer = Err NoNewer
 
 -- THE STATE that a reader holds, over all the bytes of its buffer
 abbrev pub state_in : PairReader → State

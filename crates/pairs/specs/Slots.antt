@@ -21,12 +21,12 @@ kind_of Superblock = superblock
 
 -- a name, with its bytes out of those of the block
 abbrev pub name_of : List ℕ → code-name.Name → volume.Name
-name_of b n = record { kind = kind_of n.kind; bytes = part b n.at n.length }
+name_of b n = record { kind = kind_of n.kind; bytes = part b n.span.at n.span.length }
 
 -- what stands behind a name, with an inline file's bytes out of those of the block
 abbrev pub content_of : List ℕ → Content → Struct
-content_of b (Pair x y) = pair x y
-content_of b (Inline at n) = inline (part b at n)
+content_of b (Pair p) = pair p.first p.second
+content_of b (Inline s) = inline (part b s.at s.length)
 content_of b (SkipList head size) = skip head size
 
 -- an entry, of which either part may be missing
@@ -35,11 +35,11 @@ slot_of b e = record { name = option_map (name_of b) e.name; content = option_ma
 
 -- the pair that a tail names
 abbrev pub tail_of : code-tail.Tail → volume.Tail
-tail_of t = record { hard = t.hard; first = t.first; second = t.second }
+tail_of t = record { hard = t.hard; first = t.pair.first; second = t.pair.second }
 
 -- the move data
 abbrev pub moves_of : code-moves.Moves → volume.Moves
-moves_of m = record { word = m.word; first = m.first; second = m.second }
+moves_of m = record { word = m.word; first = m.pair.first; second = m.pair.second }
 
 -- an entry of which nothing is known yet
 abbrev pub none : Entry

@@ -1,20 +1,17 @@
 -- What a table holds, and what the edits of a table leave.
-use Rattle.std.specs.Prelude.{◌≡◌, ℕ, ◌+◌, ◌-◌, List, ◌++◌, map, length, take, replicate, Some}
+use Rattle.std.specs.Prelude.{◌≡◌, ℕ, ◌+◌, ◌-◌, ◌<◌, ◌≤◌, List, ◌++◌, map, length, replicate, Some, Result, MatchResult, slice_index_or, slice_set}
 use Rattle.std.specs.Option.{option_map}
 use Rattle.volume.specs.State.{State}
 use Rattle.pairs.specs.declared.entry.Name.{Name}
 use Rattle.pairs.specs.declared.entry.Content.{Content}
 use Rattle.pairs.specs.declared.entry.Entry.{Entry}
 use Rattle.pairs.specs.declared.table.Table.{Table}
+use Rattle.pairs.specs.declared.tags.Misplaced.{Misplaced}
 use Rattle.pairs.specs.Slots.{slot_of, tail_of, moves_of, none}
-
--- the entries of a table, as they are kept
-abbrev pub entries_in : Table → List Entry
-entries_in t = take t.count t.slots
 
 -- THE STATE that a table stands for, over the bytes of a block
 abbrev pub state_of : List ℕ → Table → State
-state_of b t = record { entries = map (slot_of b) (entries_in t); tail = option_map tail_of t.tail; moves = option_map moves_of t.moves }
+state_of b t = record { entries = map (slot_of b) t.entries.items; tail = option_map tail_of t.tail; moves = option_map moves_of t.moves }
 
 -- as many entries as an id asks for
 abbrev pub grown_to : List Entry → ℕ → List Entry
@@ -30,6 +27,10 @@ holding e c = record { name = e.name; content = Some c }
 
 -- the table u is t with these entries
 pub record Edited (t u : Table) (es : List Entry) : Type 0 where
-  pub entries : entries_in u ≡ es
+  pub entries : u.entries.items ≡ es
   pub tail : u.tail ≡ t.tail
   pub moves : u.moves ≡ t.moves
+
+-- what giving a content to the entry at an id comes to: the table u is t with it, or there is no such entry
+abbrev pub Gives : Table → ℕ → Content → Result (Unit {0}) Misplaced → Table → Type 0
+Gives t i c r u = MatchResult r (λ _. (i < length t.entries.items) × Edited t u (slice_set t.entries.items i (holding (slice_index_or t.entries.items i none) c))) (λ _. length t.entries.items ≤ i)

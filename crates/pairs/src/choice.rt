@@ -2,22 +2,22 @@
 ghost use Rattle.std.specs.Prelude.{◌≡◌, ◌==◌};
 ghost use Rattle.metalog.specs.Revision.{newer};
 ghost use Rattle.volume.specs.Pair.{chosen};
-ghost use Rattle.pairs.specs.Pairs.{choice_for};
+ghost use Rattle.pairs.specs.Pairs.{side_for};
 
 use metalog::{Revision, Survey};
+use volume::What;
 
-// The first block, the second, or neither: none has a finished commit, or both have one and neither is newer.
-#[derive(Clone, Copy)]
-pub(crate) enum Choice {
+// One of the two blocks.
+#[derive(Clone, Copy, Debug, PartialEq, Eq)]
+pub(crate) enum Side {
     First,
     Second,
-    NoCommit,
-    NoNewer,
 }
 
-// The choice by what the two logs are in short.
-pub(crate) fn choose(first: Survey, second: Survey) -> Choice
-    ensures { choice_for result ≡ chosen (first.commits == 0) (second.commits == 0) (newer first.revision second.revision) (newer second.revision first.revision) }
+// The block that counts by what the two logs are in short; or what is wrong: none has a finished commit, or both have one and
+// neither is newer.
+pub(crate) fn choose(first: Survey, second: Survey) -> Result<Side, What>
+    ensures { result ≡ side_for (chosen (first.commits == 0) (second.commits == 0) (newer first.revision second.revision) (newer second.revision first.revision)) }
 {
     let p = Revision {
         word: first.revision,
@@ -26,17 +26,11 @@ pub(crate) fn choose(first: Survey, second: Survey) -> Choice
         word: second.revision,
     };
     match (first.commits == 0, second.commits == 0) {
-        (true, true) => Choice::NoCommit,
-        (false, true) => Choice::First,
-        (true, false) => Choice::Second,
-        (false, false) => {
-            if p.is_newer_than(q) {
-                Choice::First
-            } else if q.is_newer_than(p) {
-                Choice::Second
-            } else {
-                Choice::NoNewer
-            }
-        }
+        (true, true) => Err(What::NoCommit),
+        (false, true) => Ok(Side::First),
+        (true, false) => Ok(Side::Second),
+        (false, false) if p.is_newer_than(q) => Ok(Side::First),
+        (false, false) if q.is_newer_than(p) => Ok(Side::Second),
+        (false, false) => Err(What::NoNewer),
     }
 }

@@ -15,24 +15,16 @@ pub(crate) fn fold(block: &[u8], commits: usize, table: &mut Table) -> Result<()
     ensures inside { IfErr result (λ at. at < 4096) }
 {
     table.clear();
-    let mut reader = LogReader::new(block);
+    // The commits are counted down: a tag counts while a commit is still to end behind it, and `left` are still to end.
     let mut left = commits;
-    while left > 0 {
-        let Some(item) = reader.next() else {
+    for item in LogReader::new(block) {
+        if left == 0 {
             break;
-        };
+        }
         match item {
-            Item::Held(entry) => {
-                if !apply(table, entry) {
-                    return Err(entry.offset);
-                }
-            }
-            Item::Ended(end) => {
-                if end.id as usize != NO_ID {
-                    return Err(end.tag);
-                }
-                left -= 1;
-            }
+            Item::Held(entry) => apply(table, entry).map_err(|_| entry.offset)?,
+            Item::Ended(end) if end.id as usize != NO_ID => return Err(end.tag),
+            Item::Ended(_) => left -= 1,
         }
     }
     Ok(())

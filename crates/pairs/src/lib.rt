@@ -9,5 +9,5 @@ mod pair;
 mod table;
 mod tags;
 
-pub use entry::{Content, Entry, Kind, Moves, Name, Tail};
+pub use entry::{Blocks, Content, Entry, Kind, Moves, Name, Span, Tail};
 pub use pair::PairReader;

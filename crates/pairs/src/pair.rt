@@ -2,12 +2,13 @@
 ghost use Rattle.std.specs.Prelude.{◌≡◌, ℕ, ◌≤◌, [], length, take};
 ghost use Rattle.metalog.specs.Log.{commits_of, items_of};
 ghost use Rattle.volume.specs.State.{start, fold_items};
-ghost use Rattle.volume.specs.Pair.{finished_of, fault as fault_at};
+ghost use Rattle.volume.specs.Pair.{finished_of};
 ghost use Rattle.pairs.specs.Pairs.{Surveys, Judges, PairReads};
 
 mod held;
 
-use crate::choice::{Choice, choose};
+use crate::choice::{Side, choose};
+use crate::entry::Blocks;
 use crate::fold::fold;
 use crate::table::Table;
 use flash::ReadableDevice;
@@ -17,23 +18,13 @@ use volume::{Fault, What};
 // The block whose log counts, and what its log makes.
 #[derive(Drop)]
 pub struct PairReader {
+    // The block fills the first bytes of the buffer: how many, the device says at each reading, so that no length is kept.
     block: [u8; 4096],
     table: Table,
 }
 
 // How many bytes the buffer has: a block of more bytes cannot be read.
 const BUFFER: usize = 4096;
-
-// A fault at the start of a block.
-fn fault(what: What, block: u32) -> Fault
-    ensures { result ≡ fault_at what block 0 }
-{
-    Fault {
-        what,
-        block,
-        byte: 0,
-    }
-}
 
 // Reads a whole block, and says what its log is in short.
 fn survey<D: ReadableDevice>(device: &D, block: u32, out: &mut [u8]) -> Result<Survey, Fault>
@@ -45,24 +36,23 @@ fn survey<D: ReadableDevice>(device: &D, block: u32, out: &mut [u8]) -> Result<S
 }
 
 impl PairReader {
-    // Reads a pair of blocks. The answer is the block whose log counts, or the first fault.
-    pub fn read<D: ReadableDevice>(&mut self, device: &D, a: u32, b: u32) -> Result<u32, Fault>
-        ensures { PairReads (D.meaning device.now) a b result self.new }
+    // Reads a pair. The answer is the block whose log counts, or the first fault.
+    pub fn read<D: ReadableDevice>(&mut self, device: &D, pair: Blocks) -> Result<u32, Fault>
+        ensures { PairReads (D.meaning device.now) pair.first pair.second result self.new }
     {
         let size = device.block_size() as usize;
         if size > BUFFER {
-            return Err(fault(What::Size, 0));
+            return Err(What::Size.at(0, 0));
         }
-        let first = self.load(device, a, size)?;
-        let second = self.load(device, b, size)?;
-        match choose(first, second) {
-            Choice::First => {
-                self.load(device, a, size)?;
-                self.fold_at(size, first.commits, a)
+        let first = self.load(device, pair.first, size)?;
+        let second = self.load(device, pair.second, size)?;
+        let side = choose(first, second).map_err(|what| what.at(pair.first, 0))?;
+        match side {
+            Side::First => {
+                self.load(device, pair.first, size)?;
+                self.fold_at(size, first.commits, pair.first)
             }
-            Choice::Second => self.fold_at(size, second.commits, b),
-            Choice::NoCommit => Err(fault(What::NoCommit, a)),
-            Choice::NoNewer => Err(fault(What::NoNewer, a)),
+            Side::Second => self.fold_at(size, second.commits, pair.second),
         }
     }
 
@@ -87,13 +77,7 @@ impl PairReader {
     {
         let table = &mut self.table;
         let log = &mut self.block[0..size];
-        match fold(log, commits, table) {
-            Ok(()) => Ok(block),
-            Err(at) => Err(Fault {
-                what: What::Tag,
-                block,
-                byte: at as u32,
-            }),
-        }
+        fold(log, commits, table).map_err(|at| What::Tag.at(block, at as u32))?;
+        Ok(block)
     }
 }

@@ -1,12 +1,11 @@
-// What the type of a tag says, and data that are words.
+// What the type of a tag says, and data that are two words.
 ghost use Rattle.std.specs.Prelude.{◌≡◌};
-ghost use Rattle.volume.specs.State.{effect_of};
-ghost use Rattle.pairs.specs.Changes.{effect_for, two_words, three_words};
+ghost use Rattle.pairs.specs.Changes.{Decodes, two_words};
 
 use crate::entry::Kind;
 
 // What a type of tag does.
-#[derive(Clone, Copy)]
+#[derive(Clone, Copy, Debug, PartialEq, Eq)]
 pub(crate) enum Effect {
     Inserts,
     Removes,
@@ -14,56 +13,45 @@ pub(crate) enum Effect {
     Points,
     Holds,
     Skips,
-    Tails(bool),
+    Tails { hard: bool },
     Moves,
-    Unknown,
 }
 
+// A tag that must not be there: its type is not known, or its length, its id or its size is none that it may have.
+#[derive(Clone, Copy, Debug, PartialEq, Eq)]
+pub(crate) struct Misplaced;
+
 // What a tag of this type does.
-pub(crate) fn effect_of(kind: u32) -> Effect
-    ensures { effect_for result ≡ effect_of kind }
-{
-    match kind {
-        0x401 => Effect::Inserts,
-        0x4ff => Effect::Removes,
-        0x001 => Effect::Names(Kind::File),
-        0x002 => Effect::Names(Kind::Directory),
-        0x0ff => Effect::Names(Kind::Superblock),
-        0x200 => Effect::Points,
-        0x201 => Effect::Holds,
-        0x202 => Effect::Skips,
-        0x600 => Effect::Tails(false),
-        0x601 => Effect::Tails(true),
-        0x7ff => Effect::Moves,
-        _ => Effect::Unknown,
+impl TryFrom<u32> for Effect {
+    type Error = Misplaced;
+
+    ghost try_from_gives = { Decodes };
+
+    #[tactic(auto, unfolding(volume::specs::State::effect_of))]
+    fn try_from(kind: u32) -> Result<Self, Misplaced> {
+        match kind {
+            0x401 => Ok(Effect::Inserts),
+            0x4ff => Ok(Effect::Removes),
+            0x001 => Ok(Effect::Names(Kind::File)),
+            0x002 => Ok(Effect::Names(Kind::Directory)),
+            0x0ff => Ok(Effect::Names(Kind::Superblock)),
+            0x200 => Ok(Effect::Points),
+            0x201 => Ok(Effect::Holds),
+            0x202 => Ok(Effect::Skips),
+            0x600 => Ok(Effect::Tails { hard: false }),
+            0x601 => Ok(Effect::Tails { hard: true }),
+            0x7ff => Ok(Effect::Moves),
+            _ => Err(Misplaced),
+        }
     }
 }
 
 // Eight bytes as two words.
-pub(crate) fn two_words(bytes: &[u8]) -> Option<(u32, u32)>
+pub(crate) fn two_words(bytes: &[u8]) -> Result<[u32; 2], Misplaced>
     ensures { result ≡ two_words bytes.now }
 {
-    if let [a0, a1, a2, a3, b0, b1, b2, b3] = bytes {
-        Some((
-            u32::from_le_bytes([*a0, *a1, *a2, *a3]),
-            u32::from_le_bytes([*b0, *b1, *b2, *b3]),
-        ))
-    } else {
-        None
-    }
-}
-
-// Twelve bytes as three words.
-pub(crate) fn three_words(bytes: &[u8]) -> Option<(u32, u32, u32)>
-    ensures { result ≡ three_words bytes.now }
-{
-    if let [a0, a1, a2, a3, b0, b1, b2, b3, c0, c1, c2, c3] = bytes {
-        Some((
-            u32::from_le_bytes([*a0, *a1, *a2, *a3]),
-            u32::from_le_bytes([*b0, *b1, *b2, *b3]),
-            u32::from_le_bytes([*c0, *c1, *c2, *c3]),
-        ))
-    } else {
-        None
-    }
+    let ([first, second], []) = bytes.as_chunks::<4>() else {
+        return Err(Misplaced);
+    };
+    Ok([u32::from_le_bytes(*first), u32::from_le_bytes(*second)])
 }

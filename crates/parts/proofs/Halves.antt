@@ -1,20 +1,20 @@
 -- A write that stops half way: what it leaves in the cells, that this is a mix of old and new bytes, and so that a chip
 -- which does exactly what is written of it answers as every device must.
-use Rattle.std.proofs.Common.{◌≡◌, ℕ, ◌+◌, ◌-◌, ◌*◌, ◌/◌, ◌≤◌, Bool, true, false, ◌||◌, eqb, List, [], ◌++◌, length, get_or, take, drop, replicate, None, Ok, Err, Result, sym, refl, ap, ◌∙◌, inl, inr, zero-add, arith, rules}
+use Rattle.std.proofs.Common.{◌≡◌, ℕ, ◌+◌, ◌-◌, ◌/◌, ◌≤◌, Bool, true, false, ◌||◌, eqb, List, [], ◌++◌, length, get_or, take, drop, replicate, None, Ok, Err, Result, sym, refl, ap, ◌∙◌, inl, inr, zero-add, arith, rules}
 use lib.Seq.{paste}
 use Rattle.std.proofs.lemmas.List.{places, take-take, take-replicate, length-take}
 use Rattle.std.proofs.lemmas.List.Edits.{length-paste}
 use Rattle.std.proofs.lemmas.Bool.{cases_lt, eqb-true}
 use Rattle.flash.specs.Card.{Card, Shaped, bytes, put, darkened}
-use Rattle.flash.specs.Image.{blocks_of}
 use Rattle.flash.specs.Device.{Answers}
 use Rattle.flash.specs.Write.{Write, program, erase, target, intended, refusal, written, Mixed}
 use Rattle.flash.specs.declared.Refusal.{Refusal}
 use Rattle.flash.specs.declared.Refusal.TheVariants.{Dark}
 use Rattle.flash.proofs.Refusals.{may_program, may_erase}
-use Rattle.parts.specs.Cells.{card, Replaces}
+use Rattle.parts.specs.Cells.{blocks_held, card_held, Rewrites}
+use Rattle.parts.specs.declared.cells.Cells.{Cells}
 use Rattle.parts.specs.Chip.{Chip, chip, halfway, torn, Writes}
-use Rattle.parts.specs.Cards.{card_shaped, card_replaced}
+use Rattle.parts.specs.Held.{held_shaped, held_replaced}
 
 -- the first m bytes of a part in the place of all n are a mix
 pub paste_mixed : (xs u : List ℕ) (at n m : ℕ) → at + n ≤ length xs → n ≤ length u → m ≤ n → Mixed xs (paste xs at u n) (paste xs at u m)
@@ -61,43 +61,44 @@ pub paste_erased : (old : List ℕ) (n : ℕ) → paste old 0 (replicate n 0xff)
 paste_erased old n = let all = take-replicate {X = ℕ} n n 0xff (omega arith) in rw (all, zero-add n)
 
 -- the first half of a unit put into a block is a torn program
-pub program_torn : (size count b at size' count' : ℕ) (u v xs xs' : List ℕ) (good : List Bool) (dark : Bool) → length u ≡ 16 → v ≡ take 8 u → Replaces size count xs b (λ old. paste old at v (length v)) size' count' xs' → card size' count' xs' good true ≡ torn (card size count xs good dark) (program b at u)
-program_torn size count b at size' count' u v xs xs' good dark e h r =
-    let old : List ℕ = get_or (blocks_of size count xs) b [] in
+pub program_torn : (old : Cells) (b at : ℕ) (u v : List ℕ) (new : Cells) (good : List Bool) (dark : Bool) → length u ≡ 16 → v ≡ take 8 u → Rewrites old b (λ xs. paste xs at v (length v)) new → card_held new good true ≡ torn (card_held old good dark) (program b at u)
+program_torn old b at u v new good dark e h r =
+    let xs : List ℕ = get_or (blocks_held old) b [] in
     let long : length v ≡ 8 = ap length h ∙ simp length-take (omega arith) in
-    let same : paste old at v (length v) ≡ paste old at u 8 = ap (paste old at v) long ∙ ap (λ ys. take at old ++ take 8 ys ++ drop (at + 8) old) h ∙ ap (λ ys. take at old ++ ys ++ drop (at + 8) old) (take-take 8 8 u (omega arith)) in
-    card_replaced size count b size' count' _ xs xs' good true r
-    ∙ ap (λ new. darkened (put (card size count xs good dark) b new)) same
+    let same : paste xs at v (length v) ≡ paste xs at u 8 = ap (paste xs at v) long ∙ ap (λ ys. take at xs ++ take 8 ys ++ drop (at + 8) xs) h ∙ ap (λ ys. take at xs ++ ys ++ drop (at + 8) xs) (take-take 8 8 u (omega arith)) in
+    held_replaced old b _ new good true r
+    ∙ ap (λ ys. darkened (put (card_held old good dark) b ys)) same
 
 -- the first half of a block erased is a torn erase
-pub erase_torn : (size count b n size' count' : ℕ) (xs xs' : List ℕ) (good : List Bool) (dark : Bool) → n ≡ size / 2 → Replaces size count xs b (λ old. paste old 0 (replicate n 0xff) n) size' count' xs' → card size' count' xs' good true ≡ torn (card size count xs good dark) (erase b)
-erase_torn size count b n size' count' xs xs' good dark h r =
-    let old : List ℕ = get_or (blocks_of size count xs) b [] in
-    let same : paste old 0 (replicate n 0xff) n ≡ replicate (size / 2) 0xff ++ drop (size / 2) old = ap (λ k. paste old 0 (replicate k 0xff) k) h ∙ paste_erased old (size / 2) in
-    card_replaced size count b size' count' _ xs xs' good true r
-    ∙ ap (λ new. darkened (put (card size count xs good dark) b new)) same
+pub erase_torn : (old : Cells) (b n : ℕ) (new : Cells) (good : List Bool) (dark : Bool) → n ≡ old.geometry.block_size / 2 → Rewrites old b (λ xs. paste xs 0 (replicate n 0xff) n) new → card_held new good true ≡ torn (card_held old good dark) (erase b)
+erase_torn old b n new good dark h r =
+    let size : ℕ = old.geometry.block_size in
+    let xs : List ℕ = get_or (blocks_held old) b [] in
+    let same : paste xs 0 (replicate n 0xff) n ≡ replicate (size / 2) 0xff ++ drop (size / 2) xs = ap (λ k. paste xs 0 (replicate k 0xff) k) h ∙ paste_erased xs (size / 2) in
+    held_replaced old b _ new good true r
+    ∙ ap (λ ys. darkened (put (card_held old good dark) b ys)) same
 
 -- both promises of a chip: it answers as every device must, and does exactly what is written of it
 abbrev pub Both : Chip → Write → Result (Unit {0}) Refusal → Chip → Type 0
 Both x w r y = Answers x.card w r y.card (λ _. Unit {0}) (λ _. Unit {0}) × Writes x w r y
 
 -- the cells and the power after a write in which the power went are the chip that was to be
-pub cut_exactly : (size count left size' count' left' : ℕ) (xs xs' : List ℕ) (good : List Bool) (dark dark' : Bool) (w : Write) → length xs ≡ count * size → length good ≡ count → dark ≡ false → refusal (card size count xs good false) w ≡ None → true ≡ eqb left 1 → left' ≡ left - 1 → dark' ≡ (dark || true) → card size' count' xs' good true ≡ torn (card size count xs good dark) w → Both (chip (card size count xs good dark) left) w (Err Dark) (chip (card size' count' xs' good dark') left')
-cut_exactly size count left size' count' left' xs xs' good dark dark' w whole marked lit may goes spent gone e =
+pub cut_exactly : (old new : Cells) (left left' : ℕ) (good : List Bool) (dark dark' : Bool) (w : Write) → length good ≡ old.geometry.block_count → dark ≡ false → refusal (card_held old good false) w ≡ None → true ≡ eqb left 1 → left' ≡ left - 1 → dark' ≡ (dark || true) → card_held new good true ≡ torn (card_held old good dark) w → Both (chip (card_held old good dark) left) w (Err Dark) (chip (card_held new good dark') left')
+cut_exactly old new left left' good dark dark' w marked lit may goes spent gone e =
     let none : left' ≡ 0 = omega (arith, eqb-true left 1 (sym goes)) in
     let now : dark' ≡ true = gone ∙ ap (λ d. d || true) lit in
-    let x : Chip = chip (card size count xs good dark) left in
-    let y : Chip = chip (card size' count' xs' good dark') left' in
-    let same : y ≡ chip (torn (card size count xs good dark) w) 0 = cc in
-    let exact : Writes {T = Unit {0}} x w (Err Dark) y = inr (ap (λ d. refusal (card size count xs good d) w) lit ∙ may, sym goes, refl, same) in
-    (writes_answers {T = Unit {0}} x w (Err Dark) y (card_shaped size count xs good dark whole marked) exact, exact)
+    let x : Chip = chip (card_held old good dark) left in
+    let y : Chip = chip (card_held new good dark') left' in
+    let same : y ≡ chip (torn (card_held old good dark) w) 0 = cc in
+    let exact : Writes {T = Unit {0}} x w (Err Dark) y = inr (ap (λ d. refusal (card_held old good d) w) lit ∙ may, sym goes, refl, same) in
+    (writes_answers {T = Unit {0}} x w (Err Dark) y (held_shaped old good dark marked) exact, exact)
 
 -- the cells and the power after a write that was done are the chip that was to be
-pub done_exactly : (size count left size' count' left' : ℕ) (xs xs' : List ℕ) (good : List Bool) (dark dark' : Bool) (w : Write) → length xs ≡ count * size → length good ≡ count → dark ≡ false → refusal (card size count xs good false) w ≡ None → false ≡ eqb left 1 → left' ≡ left - 1 → dark' ≡ (dark || false) → card size' count' xs' good dark ≡ written (card size count xs good dark) w → Both (chip (card size count xs good dark) left) w (Ok tt) (chip (card size' count' xs' good dark') left')
-done_exactly size count left size' count' left' xs xs' good dark dark' w whole marked lit may stays spent gone e =
+pub done_exactly : (old new : Cells) (left left' : ℕ) (good : List Bool) (dark dark' : Bool) (w : Write) → length good ≡ old.geometry.block_count → dark ≡ false → refusal (card_held old good false) w ≡ None → false ≡ eqb left 1 → left' ≡ left - 1 → dark' ≡ (dark || false) → card_held new good dark ≡ written (card_held old good dark) w → Both (chip (card_held old good dark) left) w (Ok tt) (chip (card_held new good dark') left')
+done_exactly old new left left' good dark dark' w marked lit may stays spent gone e =
     let now : dark' ≡ dark = gone ∙ ap (λ d. d || false) lit ∙ sym lit in
-    let x : Chip = chip (card size count xs good dark) left in
-    let y : Chip = chip (card size' count' xs' good dark') left' in
-    let same : y ≡ chip (written (card size count xs good dark) w) (left - 1) = cc in
-    let exact : Writes {T = Unit {0}} x w (Ok tt) y = (ap (λ d. refusal (card size count xs good d) w) lit ∙ may, sym stays, same) in
-    (writes_answers {T = Unit {0}} x w (Ok tt) y (card_shaped size count xs good dark whole marked) exact, exact)
+    let x : Chip = chip (card_held old good dark) left in
+    let y : Chip = chip (card_held new good dark') left' in
+    let same : y ≡ chip (written (card_held old good dark) w) (left - 1) = cc in
+    let exact : Writes {T = Unit {0}} x w (Ok tt) y = (ap (λ d. refusal (card_held old good d) w) lit ∙ may, sym stays, same) in
+    (writes_answers {T = Unit {0}} x w (Ok tt) y (held_shaped old good dark marked) exact, exact)

@@ -2,4 +2,3 @@
 pub mod Checked
 pub mod Replaced
 pub mod Halves
-pub mod Marks

@@ -1,25 +1,21 @@
 // The cells of a part: all blocks in one run of bytes. What both parts do with them is here, once.
 // The checks take whether the block is good, since only the part knows that; they speak of a card that is not dark.
+// Each part hands a device's questions on in one line each: a trait over both parts would need every one of these lines too.
 ghost use Rattle.std.specs.Prelude.{◌≡◌, ◌+◌, ◌*◌, ◌%◌, ◌<◌, ◌≤◌, Bool, false, ◌&&◌, List, [], length, replicate, OnOk, ◌==◌, nat_le, nat_lt, slice_index_or};
 ghost use Rattle.std.proofs.Math.Seq.{paste};
-ghost use Rattle.flash.specs.Device.{Reads};
-ghost use Rattle.flash.specs.Image.{blocks_of};
-ghost use Rattle.flash.specs.Write.{program, erase, part as part_of, refusal};
-ghost use Rattle.parts.specs.Cells.{card, Makes, Checks, Replaces};
 
 use crate::unmade::Unmade;
-use flash::{Refusal, is_erased};
+use flash::{Geometry, Refusal, is_erased};
 use std::alloc::Global;
 
-// `count` blocks of `size` bytes each.
+// The bytes of all the blocks, and how they are cut into blocks.
 #[derive(Drop)]
 pub struct Cells {
     bytes: Vec<u8>,
-    size: u32,
-    count: u32,
-    ghost small: { size ≤ 4096 },
-    ghost few: { count ≤ 4096 },
-    ghost whole: { length bytes.items ≡ count * size },
+    pub geometry: Geometry,
+    ghost small: { geometry.block_size ≤ 4096 },
+    ghost few: { geometry.block_count ≤ 4096 },
+    ghost whole: { length bytes.items ≡ geometry.block_count * geometry.block_size },
 }
 
 // Puts a part into the run of bytes.
@@ -35,35 +31,29 @@ fn erase_part(bytes: &mut [u8], at: usize, n: usize)
     requires { at + n ≤ length bytes.old }
     ensures { bytes.new ≡ paste bytes.old at (replicate n 0xff) n }
 {
-    for i in 0..n {
-        bytes[at + i] = 0xff;
-    }
+    bytes[at..at + n].fill(0xff);
 }
 
 impl Cells {
+    ghost use Rattle.flash.specs.Device.{Checks, Reads};
+    ghost use Rattle.flash.specs.Write.{program, erase, part as part_of, refusal};
+    ghost use Rattle.parts.specs.Cells.{blocks_held, card_held, IsInside, Makes, Rewrites};
+
     // Erased cells. A size or a count of 0 makes cells of no bytes.
     pub fn new(heap: Global, size: u32, count: u32) -> Result<Cells, Unmade>
-        ensures { Makes size count (λ x. (x.size ≡ size) × (x.count ≡ count) × (x.bytes.items ≡ replicate (count * size) 0xff)) result }
+        ensures { Makes size count (λ x. (x.geometry ≡ record { block_size = size; block_count = count }) × (x.bytes.items ≡ replicate (count * size) 0xff)) result }
     {
         if size > 4096 || count > 4096 {
             return Err(Unmade::Size);
         }
-        match Vec::from_elem(heap, 0xff, count as usize * size as usize) {
-            Ok(bytes) => Ok(Cells { bytes, size, count }),
-            Err(_) => Err(Unmade::Memory),
-        }
-    }
-
-    pub fn size(&self) -> u32
-        ensures { result ≡ self.now.size }
-    {
-        self.size
-    }
-
-    pub fn count(&self) -> u32
-        ensures { result ≡ self.now.count }
-    {
-        self.count
+        let bytes = Vec::from_elem(heap, 0xff, count as usize * size as usize)?;
+        Ok(Cells {
+            bytes,
+            geometry: Geometry {
+                block_size: size,
+                block_count: count,
+            },
+        })
     }
 
     // The whole run of bytes.
@@ -73,44 +63,29 @@ impl Cells {
         &self.bytes
     }
 
-    // Where the byte at an offset of a block lies in the run.
-    fn place(&self, block: u32, at: u32) -> usize
-        requires { (block < self.now.count) × (at ≤ self.now.size) }
-        ensures { result ≡ block * self.now.size + at }
-    {
-        block as usize * self.size as usize + at as usize
-    }
-
-    // Whether n bytes from an offset of a block on lie inside it.
-    fn is_inside(&self, block: u32, at: u32, n: usize) -> bool
-        ensures { result ≡ (nat_lt block self.now.count && nat_le (at + n) self.now.size) }
-    {
-        block < self.count && at <= self.size && n <= (self.size - at) as usize
-    }
-
     // Whether n bytes at an offset of a block are a unit: 16 bytes at a multiple of 16, inside the block.
     fn is_unit(&self, block: u32, at: u32, n: usize) -> bool
-        ensures { result ≡ (nat_lt block self.now.count && (n == 16 && (at % 16 == 0 && nat_le (at + 16) self.now.size))) }
+        ensures { result ≡ (nat_lt block self.now.geometry.block_count && (n == 16 && (at % 16 == 0 && nat_le (at + 16) self.now.geometry.block_size))) }
     {
-        n == 16 && at % 16 == 0 && self.is_inside(block, at, 16)
+        n == 16 && at % 16 == 0 && self.geometry.is_inside(block, at, 16)
     }
 
     // The n bytes from an offset of a block on.
     fn part(&self, block: u32, at: u32, n: usize) -> &[u8]
-        requires { (block < self.now.count) × (at + n ≤ self.now.size) }
-        ensures value { result.now ≡ part_of (slice_index_or (blocks_of self.now.size self.now.count self.now.bytes.items) block []) at n }
+        requires { IsInside self.now.geometry block at n }
+        ensures value { result.now ≡ part_of (slice_index_or (blocks_held self.now) block []) at n }
         ensures len { length result.now ≡ n }
     {
-        let start = self.place(block, at);
+        let start = self.geometry.place(block, at);
         let bytes: &[u8] = &self.bytes;
         &bytes[start..start + n]
     }
 
     // Bytes of one block into the whole of `out`.
     pub fn read(&self, block: u32, at: u32, out: &mut [u8]) -> Result<(), Refusal>
-        ensures { (good : List Bool) → Reads (card self.now.size self.now.count self.now.bytes.items good false) block at out.old result out.new }
+        ensures { (good : List Bool) → Reads (card_held self.now good false) block at out.old result out.new }
     {
-        if !self.is_inside(block, at, out.len()) {
+        if !self.geometry.is_inside(block, at, out.len()) {
             return Err(Refusal::Outside);
         }
         out.copy_from_slice(self.part(block, at, out.len()));
@@ -125,8 +100,8 @@ impl Cells {
         at: u32,
         unit: &[u8],
     ) -> Result<(), Refusal>
-        ensures why { (good : List Bool) → slice_index_or good block false ≡ is_good → Checks (refusal (card self.now.size self.now.count self.now.bytes.items good false) (program block at unit.now)) result }
-        ensures inside { OnOk result ((block < self.now.count) × (length unit.now ≡ 16) × (at + 16 ≤ self.now.size)) }
+        ensures why { (good : List Bool) → slice_index_or good block false ≡ is_good → Checks (refusal (card_held self.now good false) (program block at unit.now)) result }
+        ensures inside { OnOk result (IsInside self.now.geometry block at 16 × (length unit.now ≡ 16)) }
     {
         if !self.is_unit(block, at, unit.len()) {
             return Err(Refusal::Outside);
@@ -142,10 +117,10 @@ impl Cells {
 
     // Why an erase is refused, on a card of these cells that is not dark and on which the block is good or not.
     pub fn check_erase(&self, is_good: bool, block: u32) -> Result<(), Refusal>
-        ensures why { (good : List Bool) → slice_index_or good block false ≡ is_good → Checks (refusal (card self.now.size self.now.count self.now.bytes.items good false) (erase block)) result }
-        ensures inside { OnOk result (block < self.now.count) }
+        ensures why { (good : List Bool) → slice_index_or good block false ≡ is_good → Checks (refusal (card_held self.now good false) (erase block)) result }
+        ensures inside { OnOk result (block < self.now.geometry.block_count) }
     {
-        if block >= self.count {
+        if block >= self.geometry.block_count {
             return Err(Refusal::Outside);
         }
         if !is_good {
@@ -156,19 +131,19 @@ impl Cells {
 
     // Puts a part into one block, from an offset on.
     pub fn put(&mut self, block: u32, at: u32, part: &[u8])
-        requires { (block < self.old.count) × (at + length part.now ≤ self.old.size) }
-        ensures { Replaces self.old.size self.old.count self.old.bytes.items block (λ old. paste old at part.now (length part.now)) self.new.size self.new.count self.new.bytes.items }
+        requires { IsInside self.old.geometry block at (length part.now) }
+        ensures { Rewrites self.old block (λ old. paste old at part.now (length part.now)) self.new }
     {
-        let start = self.place(block, at);
+        let start = self.geometry.place(block, at);
         put_part(&mut self.bytes, start, part);
     }
 
     // Sets the first n bytes of one block to 0xff.
     pub fn erase_first(&mut self, block: u32, n: u32)
-        requires { (block < self.old.count) × (n ≤ self.old.size) }
-        ensures { Replaces self.old.size self.old.count self.old.bytes.items block (λ old. paste old 0 (replicate n 0xff) n) self.new.size self.new.count self.new.bytes.items }
+        requires { IsInside self.old.geometry block 0 n }
+        ensures { Rewrites self.old block (λ old. paste old 0 (replicate n 0xff) n) self.new }
     {
-        let start = self.place(block, 0);
+        let start = self.geometry.place(block, 0);
         erase_part(&mut self.bytes, start, n as usize);
     }
 }

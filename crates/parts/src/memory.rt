@@ -4,7 +4,7 @@ ghost use Rattle.std.specs.Prelude.{◌≡◌, true, replicate};
 ghost use Rattle.std.proofs.lemmas.List.{length-replicate};
 ghost use Rattle.parts.specs.Cells.{fresh, Makes};
 ghost use Rattle.parts.specs.Memory.{card_of, ImageOf};
-ghost use Rattle.parts.specs.Cards.{card_shaped};
+ghost use Rattle.parts.specs.Held.{held_shaped};
 
 use crate::cells::Cells;
 use crate::unmade::Unmade;
@@ -36,18 +36,18 @@ impl MemoryBoard {
 impl ReadableDevice for MemoryBoard {
     ghost meaning = { card_of };
 
-    ghost shaped = { λ x. card_shaped _ _ _ _ _ x.cells.whole (length-replicate _ _) };
+    ghost shaped = { λ x. held_shaped x.cells _ _ (length-replicate _ _) };
 
     fn block_size(&self) -> u32 {
-        self.cells.size()
+        self.cells.geometry.block_size
     }
 
     fn block_count(&self) -> u32 {
-        self.cells.count()
+        self.cells.geometry.block_count
     }
 
     fn is_good(&self, block: u32) -> bool {
-        block < self.cells.count()
+        block < self.cells.geometry.block_count
     }
 
     fn is_dark(&self) -> bool {
@@ -69,7 +69,8 @@ impl WritableDevice for MemoryBoard {
 
     fn erase(&mut self, block: u32) -> Result<(), Refusal> {
         self.cells.check_erase(self.is_good(block), block)?;
-        self.cells.erase_first(block, self.cells.size());
+        let size = self.cells.geometry.block_size;
+        self.cells.erase_first(block, size);
         Ok(())
     }
 

@@ -14,5 +14,5 @@ pub struct NorChip {
     cells: Cells,
     good: Vec<bool>,
     power: Power,
-    ghost marked: { length good.items ≡ cells.count },
+    ghost marked: { length good.items ≡ cells.geometry.block_count },
 }

@@ -3,10 +3,11 @@
 ghost use Rattle.std.specs.Prelude.{◌≡◌, ◌-◌, false, ◌||◌, ◌==◌};
 
 // On or gone, with the count.
-#[derive(Drop)]
+#[derive(Default, Drop)]
 pub struct Power {
     pub dark: bool,
-    // Counted from 1, the write in which the power goes; 0: it stays.
+    // Counted from 1, the write in which the power goes; 0: it stays. The chip takes and tells this number as it is, so an
+    // Option here would only be made from it and turned back into it.
     pub left: u32,
 }
 
@@ -26,12 +27,8 @@ impl Power {
         ensures dark { self.new.dark ≡ (self.old.dark || result) }
     {
         let goes = self.left == 1;
-        if goes {
-            self.dark = true;
-        }
-        if self.left > 0 {
-            self.left -= 1;
-        }
+        self.dark = self.dark || goes;
+        self.left = self.left.saturating_sub(1);
         goes
     }
 

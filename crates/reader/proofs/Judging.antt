@@ -9,6 +9,7 @@ use Rattle.files.specs.Verdict.{verdict, FileChecked}
 use Rattle.flash.specs.Card.{Card}
 use Rattle.pairlist.specs.Desks.{Listed}
 use Rattle.pairlist.specs.Rows.{row_for, rows_in}
+use Rattle.pairlist.specs.Visits.{ok_unless}
 use Rattle.pairlist.specs.declared.rows.Row as code
 use Rattle.pairlist.specs.declared.rows.PairList.{PairList}
 use Rattle.pairs.specs.Slots.{content_of}
@@ -64,6 +65,11 @@ name_short deep last n e = by (follows last n) (is_name n) refl e
     by true true h k = short_name n h
     by true false h k = let bad : ◌≡◌ {A = ℕ} 0 1 = cc in absurd (omega arith)
     by false v h k = let bad : ◌≡◌ {A = ℕ} 0 1 = cc in absurd (omega arith)
+
+-- where the answer is Ok, nothing is wrong
+pub no_fault : (o : Option What) (u : Unit {0}) → Ok u ≡ ok_unless o → o ≡ None
+no_fault None u e = refl
+no_fault (Some w) u e = absurd (cc)
 
 -- ---- the directory that an entry leads to
 

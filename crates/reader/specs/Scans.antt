@@ -53,8 +53,8 @@ FitsNot unfit w = w ≡ Entry
 
 -- a name that fits, by where it stands in the bytes b, and the pair of a directory; or what is wrong
 abbrev pub FitsAs : List ℕ → Fit → Result Fitted What → Type 0
-FitsAs b f (Ok (fitted.File at n)) = FileNamed f (part b at n)
-FitsAs b f (Ok (fitted.Directory at n x y)) = f ≡ dir_pair (part b at n) x y
+FitsAs b f (Ok (fitted.File n)) = FileNamed f (part b n.at n.length)
+FitsAs b f (Ok (fitted.Directory n p)) = f ≡ dir_pair (part b n.at n.length) p.first p.second
 FitsAs b f (Err w) = FitsNot f w
 
 -- ---- the name

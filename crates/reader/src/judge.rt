@@ -19,7 +19,7 @@ use blockset::BlockSet;
 use files::{Trail, check_file};
 use flash::ReadableDevice;
 use pairlist::{Desk, PairList};
-use pairs::{Content, Entry, Kind, PairReader};
+use pairs::{Blocks, Content, Entry, Kind, PairReader, Span};
 use volume::What;
 
 // What the scan of a tree works with: the pair on the desk, the blocks that serve, and the directories that entries named.
@@ -32,18 +32,10 @@ pub(crate) struct Scanner {
 }
 
 // A name that fits its content, by its place in the block: that of a file, or of a directory with its first pair.
-#[derive(Clone, Copy)]
+#[derive(Clone, Copy, Debug, PartialEq, Eq)]
 pub(crate) enum Fitted {
-    File {
-        at: u32,
-        length: u32,
-    },
-    Directory {
-        at: u32,
-        length: u32,
-        first: u32,
-        second: u32,
-    },
+    File { name: Span },
+    Directory { name: Span, pair: Blocks },
 }
 
 // What is wrong with the blocks that an entry names. If nothing is, those of a file serve from now on.
@@ -57,19 +49,16 @@ fn check_blocks<D: ReadableDevice>(
     requires sized { (b : List ℕ) → SizedIn (option_map (content_of b) content) }
     ensures { (b seen : List ℕ) → Marks used.old seen → BlocksChecked (D.meaning device.now) seen (option_map (content_of b) content) result used.new }
 {
-    let Some(content) = content else {
-        return Ok(());
-    };
     match content {
-        Content::Inline { .. } => Ok(()),
-        Content::Pair { first, second } => {
-            if device.is_good(first) && device.is_good(second) {
+        None | Some(Content::Inline(_)) => Ok(()),
+        Some(Content::Pair(pair)) => {
+            if device.is_good(pair.first) && device.is_good(pair.second) {
                 Ok(())
             } else {
                 Err(What::EntryBlock)
             }
         }
-        Content::SkipList { head, size } => check_file(device, used, trail, head, size),
+        Some(Content::SkipList { head, size }) => check_file(device, used, trail, head, size),
     }
 }
 
@@ -77,62 +66,38 @@ fn check_blocks<D: ReadableDevice>(
 fn fit(entry: Entry) -> Result<Fitted, What>
     ensures { (b : List ℕ) → FitsAs b (fit_of (slot_of b entry)) result }
 {
-    let Some(name) = entry.name else {
-        return Err(What::Entry);
-    };
-    let Some(content) = entry.content else {
-        return Err(What::Entry);
-    };
-    let at = name.at;
-    let length = name.length;
+    let name = entry.name.ok_or(What::Entry)?;
+    let content = entry.content.ok_or(What::Entry)?;
     match (name.kind, content) {
-        (Kind::File, Content::Inline { .. }) => Ok(Fitted::File { at, length }),
-        (Kind::File, Content::SkipList { .. }) => Ok(Fitted::File { at, length }),
-        (Kind::Directory, Content::Pair { first, second }) => Ok(Fitted::Directory {
-            at,
-            length,
-            first,
-            second,
+        (Kind::File, Content::Inline(_) | Content::SkipList { .. }) => {
+            Ok(Fitted::File { name: name.span })
+        }
+        (Kind::Directory, Content::Pair(pair)) => Ok(Fitted::Directory {
+            name: name.span,
+            pair,
         }),
-        (Kind::Superblock, Content::Inline { .. }) => Err(What::SuperblockElsewhere),
+        (Kind::Superblock, Content::Inline(_)) => Err(What::SuperblockElsewhere),
         _ => Err(What::Entry),
     }
 }
 
 // What is wrong with a name where it stands. If nothing is, it is the name before from now on.
-fn take_name(
-    pairs: &PairReader,
-    at: u32,
-    length: u32,
-    deep: bool,
-    last: &mut LastName,
-) -> Result<(), What>
-    ensures { NameTaken deep (last_of last.old) (part pairs.now.block at length) result last.new }
+fn take_name(pairs: &PairReader, span: Span, deep: bool, last: &mut LastName) -> Result<(), What>
+    ensures { NameTaken deep (last_of last.old) (part pairs.now.block span.at span.length) result last.new }
 {
-    let name = pairs.bytes(at, length);
-    if let Some(what) = last.fault(name, deep) {
-        return Err(what);
-    }
+    let name = pairs.bytes(span);
+    last.check(name, deep)?;
     last.keep(name);
     Ok(())
 }
 
 // The place in the list of the directory that begins with a pair, which is one of the list, not the root, and named by no entry
 // before. It is named from now on.
-fn enter_directory(
-    list: &PairList,
-    named: &mut BlockSet,
-    first: u32,
-    second: u32,
-) -> Result<usize, What>
-    ensures { (c : Card) (ps : List Pair) (h : Hiding) (dirs : List ℕ) → Listed c ps list.now → Marks named.old dirs → DirEnters ps dirs (find_dir 0 (dirs_from h 0 ps) first second) result named.new }
+fn enter_directory(list: &PairList, named: &mut BlockSet, pair: Blocks) -> Result<usize, What>
+    ensures { (c : Card) (ps : List Pair) (h : Hiding) (dirs : List ℕ) → Listed c ps list.now → Marks named.old dirs → DirEnters ps dirs (find_dir 0 (dirs_from h 0 ps) pair.first pair.second) result named.new }
 {
-    let Some(place) = list.find_first(first, second) else {
-        return Err(What::Directory);
-    };
-    let Some(row) = list.row(place) else {
-        return Err(What::Directory);
-    };
+    let place = list.find_first(pair).ok_or(What::Directory)?;
+    let row = list.row(place).ok_or(What::Directory)?;
     if row.dir == 0 || named.contains(row.dir) {
         return Err(What::Directory);
     }

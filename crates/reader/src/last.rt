@@ -1,14 +1,15 @@
 // The name before, in the directory that is read: the names of a directory ascend.
-ghost use Rattle.std.specs.Prelude.{◌≡◌, ◌≤◌, length, Some, None};
+ghost use Rattle.std.specs.Prelude.{◌≡◌, ◌≤◌, length};
 ghost use Rattle.volume.specs.Check.{follows, name_fault};
+ghost use Rattle.pairlist.specs.Visits.{ok_unless};
 ghost use Rattle.reader.specs.Names.{last_of};
 
+use arrayvec::ArrayVec;
 use volume::{What, is_name, precedes};
 
-#[derive(Clone, Copy)]
+#[derive(Drop)]
 pub(crate) struct LastName {
-    bytes: [u8; 64],
-    length: Option<usize>,
+    name: Option<ArrayVec<u8, 64>>,
 }
 
 impl LastName {
@@ -16,10 +17,7 @@ impl LastName {
     pub(crate) fn new() -> LastName
         ensures { last_of result ≡ None }
     {
-        LastName {
-            bytes: [0; 64],
-            length: None,
-        }
+        LastName { name: None }
     }
 
     // Keeps a name.
@@ -27,35 +25,29 @@ impl LastName {
         requires { length name.now ≤ 64 }
         ensures { last_of self.new ≡ Some name.now }
     {
-        let front = &mut self.bytes[0..name.len()];
-        front.copy_from_slice(name);
-        self.length = Some(name.len());
+        self.name = ArrayVec::try_from(name).ok();
     }
 
     // Whether a name comes behind the one before.
     fn is_before(&self, name: &[u8]) -> bool
         ensures { result ≡ follows (last_of self.now) name.now }
     {
-        let Some(length) = self.length else {
-            return true;
-        };
-        let bytes: &[u8] = &self.bytes;
-        precedes(&bytes[0..length.min(bytes.len())], name)
+        self.name.as_ref().is_none_or(|last| precedes(last, name))
     }
 
-    // What is wrong with a name where it stands: behind the name before it, and perhaps too deep.
-    pub(crate) fn fault(&self, name: &[u8], deep: bool) -> Option<What>
-        ensures { result ≡ name_fault deep (last_of self.now) name.now }
+    // A name where it stands must come behind the name before it, be a name, and not stand too deep.
+    pub(crate) fn check(&self, name: &[u8], deep: bool) -> Result<(), What>
+        ensures { result ≡ ok_unless (name_fault deep (last_of self.now) name.now) }
     {
         if !self.is_before(name) {
-            return Some(What::NameOrder);
+            return Err(What::NameOrder);
         }
         if !is_name(name) {
-            return Some(What::Name);
+            return Err(What::Name);
         }
         if deep {
-            return Some(What::Depth);
+            return Err(What::Depth);
         }
-        None
+        Ok(())
     }
 }

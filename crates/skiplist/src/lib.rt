@@ -10,5 +10,5 @@ mod walk;
 
 pub use laws::{known_places, one_location, places_follow, walks_end};
 pub use layout::{BLOCK_LIMIT, FILE_LIMIT, Location, blocks_for, first_place, locate, pointers};
-pub use size::BlockSize;
+pub use size::{BlockSize, WrongSize};
 pub use walk::stride;

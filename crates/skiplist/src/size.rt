@@ -1,7 +1,9 @@
 // The size of a block: one of four numbers of bytes.
-// A number that a card gives is checked once, by `of`; from then on its type says that it is one of the four.
+// A number that a card gives is checked once, by `try_from`; from then on its type says that it is one of the four.
 ghost use Rattle.std.specs.Prelude.{◌≡◌, ◌≤◌};
 ghost use Rattle.skiplist.specs.Sizes.{bytes_of, SizeOf};
+
+use thiserror::Error;
 
 #[derive(Clone, Copy, PartialEq, Eq, Debug)]
 pub enum BlockSize {
@@ -11,21 +13,30 @@ pub enum BlockSize {
     Bytes4096,
 }
 
-impl BlockSize {
-    // The size that has so many bytes; None where no size has.
-    pub fn of(bytes: u32) -> Option<BlockSize>
-        ensures { SizeOf bytes result }
-    {
+// A number of bytes that is not the size of a block.
+#[derive(Clone, Copy, PartialEq, Eq, Debug, Error)]
+#[error("the block size is 512, 1024, 2048 or 4096")]
+pub struct WrongSize(pub u32);
+
+// The size that has so many bytes; an error where no size has.
+impl TryFrom<u32> for BlockSize {
+    type Error = WrongSize;
+
+    ghost try_from_gives = { SizeOf };
+
+    fn try_from(bytes: u32) -> Result<BlockSize, WrongSize> {
         match bytes {
-            512 => Some(BlockSize::Bytes512),
-            1024 => Some(BlockSize::Bytes1024),
-            2048 => Some(BlockSize::Bytes2048),
-            4096 => Some(BlockSize::Bytes4096),
-            _ => None,
+            512 => Ok(BlockSize::Bytes512),
+            1024 => Ok(BlockSize::Bytes1024),
+            2048 => Ok(BlockSize::Bytes2048),
+            4096 => Ok(BlockSize::Bytes4096),
+            _ => Err(WrongSize(bytes)),
         }
     }
+}
 
-    // How many bytes a block of this size has.
+impl BlockSize {
+    // How many bytes a block of this size has. A method and no `From`, since the name says what is counted.
     pub fn bytes(self) -> u32
         ensures is { result ≡ bytes_of self }
         ensures least { 512 ≤ result }

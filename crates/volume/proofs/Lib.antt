@@ -7,11 +7,12 @@ pub mod Computed
 pub mod Aparts
 pub mod ServesOnce
 pub mod Orders
-pub mod Tails
 pub mod OnePath
 pub mod Listing
 pub mod Rows
 pub mod Spots
-pub mod Splits
 pub mod Sized
 pub mod Superblock
+pub mod Splits
+pub mod Retold
+pub mod Sizes

@@ -8,31 +8,7 @@ use Rattle.volume.specs.declared.fault.Layer.TheVariants as layer
 use Rattle.volume.specs.declared.fault.What.{What}
 use Rattle.volume.specs.declared.fault.What.TheVariants.{Dark, Size, RootBlock, NoCommit, NoNewer, Tag, Superblock, TailBlock, TailTwice, TooFull, MoveBits, Hidden, EntryBlock, BlockTwice, FileWord, Entry, SuperblockElsewhere, NameOrder, Name, Depth, Directory, Orphan}
 
-abbrev pub number_of : What → ℕ
-number_of Dark = 12
-number_of Size = 13
-number_of RootBlock = 13
-number_of NoCommit = 15
-number_of NoNewer = 15
-number_of Tag = 15
-number_of Superblock = 14
-number_of TailBlock = 16
-number_of TailTwice = 16
-number_of TooFull = 16
-number_of MoveBits = 16
-number_of Hidden = 16
-number_of EntryBlock = 16
-number_of BlockTwice = 16
-number_of FileWord = 16
-number_of Entry = 16
-number_of SuperblockElsewhere = 16
-number_of NameOrder = 16
-number_of Name = 16
-number_of Depth = 16
-number_of Directory = 16
-number_of Orphan = 16
-
--- where the trouble lies: it follows from the number
+-- where the trouble lies
 abbrev pub layer_of : What → Layer
 layer_of Dark = layer.Device
 layer_of Size = layer.Mount
@@ -57,9 +33,25 @@ layer_of Depth = layer.List
 layer_of Directory = layer.List
 layer_of Orphan = layer.List
 
--- what a device's refusal is to a reader: the device is dark, or there is no such block on it
+-- the number of a layer's faults
+abbrev pub number_in : Layer → ℕ
+number_in layer.Device = 12
+number_in layer.Mount = 13
+number_in layer.Superblock = 14
+number_in layer.Log = 15
+number_in layer.List = 16
+
+-- the number of a fault
+abbrev pub number_of : What → ℕ
+number_of w = number_in (layer_of w)
+
+-- what a device's refusal says of the card: the device is dark, or there is no such block on it
+abbrev pub reason_of : Refusal → What
+reason_of refusal.Dark = Dark
+reason_of refusal.Outside = Size
+reason_of refusal.Bad = Size
+reason_of refusal.Used = Size
+
+-- what a device's refusal is to a reader: a fault of the whole card
 abbrev pub fault_of : Refusal → fault.Fault
-fault_of refusal.Dark = record { what = Dark; block = 0; byte = 0 }
-fault_of refusal.Outside = record { what = Size; block = 0; byte = 0 }
-fault_of refusal.Bad = record { what = Size; block = 0; byte = 0 }
-fault_of refusal.Used = record { what = Size; block = 0; byte = 0 }
+fault_of r = record { what = reason_of r; block = 0; byte = 0 }

@@ -8,6 +8,7 @@ pub mod Global
 pub mod Files
 pub mod Tree
 pub mod Check
+pub mod Sizes
 pub mod Ways
 pub mod Listing
 pub mod Rows

@@ -1,5 +1,6 @@
 -- Paths as bytes, and what stands at one.
-use Rattle.std.specs.Prelude.{ℕ, Bool, true, cond, ◌&&◌, List, [], ◌∷◌, ◌++◌, length, Some, None, Option, ◌==◌, nat_le}
+use Rattle.std.specs.Prelude.{ℕ, cond, ◌&&◌, List, [], ◌∷◌, ◌++◌, length, Some, None, Option, ◌==◌, nat_le}
+use Rattle.std.specs.List.{list_all}
 use Rattle.volume.specs.Tree.{Name, is_name, Node, file, directory, child}
 
 -- "/"
@@ -11,12 +12,9 @@ abbrev pub split_from : Name → List ℕ → List Name
 split_from begun [] = begun ∷ []
 split_from begun (x ∷ xs) = cond (x == slash) (begun ∷ split_from [] xs) (split_from (begun ++ x ∷ []) xs)
 
-abbrev pub all_names : List Name → Bool
-all_names [] = true
-all_names (n ∷ ns) = is_name n && all_names ns
-
+-- parts that are all names, and not too many
 abbrev pub named : List Name → Option (List Name)
-named ns = cond (all_names ns && nat_le (length ns) 8) (Some ns) None
+named ns = cond (list_all is_name ns && nat_le (length ns) 8) (Some ns) None
 
 -- The names of a path: none for "/" alone, else up to eight, each behind one "/". Anything else is no path.
 unfoldable pub path_of : List ℕ → Option (List Name)

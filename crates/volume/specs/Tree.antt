@@ -1,5 +1,6 @@
 -- A tree of directories and files by name: what both firms must find on a card. It knows nothing of cards.
 use Rattle.std.specs.Prelude.{ℕ, zero, suc, Bool, true, false, cond, not, ◌&&◌, ◌||◌, List, [], ◌∷◌, length, Some, None, Option, ◌==◌, nat_le, slice_index}
+use Rattle.std.specs.List.{list_all}
 use Prim.Native.Nat.{compare, Ordering}
 
 -- a name is its bytes
@@ -26,8 +27,7 @@ named a b = choose (order a b) false true false
 
 -- whether no byte of a name is 0 or "/"
 abbrev pub plain : Name → Bool
-plain [] = true
-plain (x ∷ xs) = not (x == 0) && (not (x == 47) && plain xs)
+plain n = list_all (λ x. not (x == 0) && not (x == 47)) n
 
 -- whether bytes are "." or ".."
 abbrev pub dots : Name → Bool

@@ -1,6 +1,7 @@
-// What is wrong with a card, and where: one definition tells the number and the layer of each case.
+// What is wrong with a card, and where: one definition tells the layer of each case, and another the number of each layer.
 ghost use Rattle.std.specs.Prelude.{◌≡◌};
-ghost use Rattle.volume.specs.Fault.{number_of, layer_of, fault_of};
+ghost use Rattle.volume.specs.Fault.{number_of, layer_of, reason_of, fault_of};
+ghost use Rattle.volume.specs.Pair.{fault};
 
 use flash::Refusal;
 
@@ -64,19 +65,20 @@ pub enum Layer {
 }
 
 impl What {
-    // The number of the fault.
+    // The number of the fault: each layer has one.
     pub fn number(self) -> u8
         ensures { result ≡ number_of self }
     {
-        match self {
-            What::Dark => 12,
-            What::Size | What::RootBlock => 13,
-            What::Superblock => 14,
-            What::NoCommit | What::NoNewer | What::Tag => 15,
-            _ => 16,
+        match self.layer() {
+            Layer::Device => 12,
+            Layer::Mount => 13,
+            Layer::Superblock => 14,
+            Layer::Log => 15,
+            Layer::List => 16,
         }
     }
 
+    // Where the trouble lies.
     pub fn layer(self) -> Layer
         ensures { result ≡ layer_of self }
     {
@@ -86,6 +88,29 @@ impl What {
             What::Superblock => Layer::Superblock,
             What::NoCommit | What::NoNewer | What::Tag => Layer::Log,
             _ => Layer::List,
+        }
+    }
+
+    // The fault of this kind that was met at a block and a byte.
+    pub fn at(self, block: u32, byte: u32) -> Fault
+        ensures { result ≡ fault self block byte }
+    {
+        Fault {
+            what: self,
+            block,
+            byte,
+        }
+    }
+}
+
+// What a device's refusal says of the card: the device is dark, or there is no such block on it.
+impl From<Refusal> for What {
+    ghost from_gives = { λ x y. y ≡ reason_of x };
+
+    fn from(refusal: Refusal) -> What {
+        match refusal {
+            Refusal::Dark => What::Dark,
+            Refusal::Outside | Refusal::Bad | Refusal::Used => What::Size,
         }
     }
 }
@@ -98,19 +123,11 @@ pub struct Fault {
     pub byte: u32,
 }
 
-// What a device refuses is a fault of the card: the device is dark, or there is no such block on it.
+// What a device refuses is a fault of the whole card: it has no block of its own.
 impl From<Refusal> for Fault {
     ghost from_gives = { λ x y. y ≡ fault_of x };
 
-    fn from(value: Refusal) -> Fault {
-        let what = match value {
-            Refusal::Dark => What::Dark,
-            _ => What::Size,
-        };
-        Fault {
-            what,
-            block: 0,
-            byte: 0,
-        }
+    fn from(refusal: Refusal) -> Fault {
+        What::from(refusal).at(0, 0)
     }
 }

@@ -9,38 +9,26 @@ pub const NAME_LIMIT: usize = 64;
 fn is_plain(bytes: &[u8]) -> bool
     ensures { result ≡ plain bytes.now }
 {
-    for byte in bytes {
-        if *byte == 0 || *byte == b'/' {
-            return false;
-        }
-    }
-    true
+    bytes.iter().all(|byte| *byte != 0 && *byte != b'/')
 }
 
 // Whether bytes are a name: 1 to 64 of them, none 0 or "/", and neither "." nor "..".
 pub fn is_name(bytes: &[u8]) -> bool
     ensures { result ≡ is_name bytes.now }
 {
-    bytes.len() >= 1 && bytes.len() <= NAME_LIMIT && is_plain(bytes) && !is_dots(bytes)
+    !bytes.is_empty() && bytes.len() <= NAME_LIMIT && is_plain(bytes) && !is_dots(bytes)
 }
 
 // Whether bytes are "." or "..".
 fn is_dots(bytes: &[u8]) -> bool
     ensures { result ≡ dots bytes.now }
 {
-    (bytes.len() == 1 && bytes[0] == b'.')
-        || (bytes.len() == 2 && bytes[0] == b'.' && bytes[1] == b'.')
+    matches!(bytes, b"." | b"..")
 }
 
 // Whether one name comes before another: by the first byte that differs, and a beginning before what it begins.
 pub fn precedes(a: &[u8], b: &[u8]) -> bool
     ensures { result ≡ before a.now b.now }
 {
-    let shorter = a.len().min(b.len());
-    for i in 0..shorter {
-        if a[i] != b[i] {
-            return a[i] < b[i];
-        }
-    }
-    a.len() < b.len()
+    a < b
 }

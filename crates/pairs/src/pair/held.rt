@@ -1,51 +1,47 @@
 // What a reader of pairs holds: its entries, its tail and its move data, and the bytes that they stand for.
-ghost use Rattle.std.specs.Prelude.{◌≡◌, ℕ, ◌+◌, ◌-◌, ◌≤◌, min, List, length};
+ghost use Rattle.std.specs.Prelude.{◌≡◌, ◌≤◌, length};
 ghost use Rattle.std.specs.Option.{option_map};
 ghost use Rattle.std.specs.List.{slice_get};
 ghost use Rattle.metalog.specs.Log.{part};
-ghost use Rattle.volume.specs.State.{start, name_long, content_long, size_of};
-ghost use Rattle.pairs.specs.Slots.{name_of, content_of, slot_of, tail_of, moves_of};
+ghost use Rattle.volume.specs.State.{start, size_of};
+ghost use Rattle.pairs.specs.Slots.{slot_of, tail_of, moves_of};
+ghost use Rattle.pairs.specs.Sizes.{clipped, name_size, content_size, entry_size};
 ghost use Rattle.pairs.specs.Pairs.{state_in};
 
 use super::{BUFFER, PairReader};
-use crate::entry::{Content, Entry, Moves, Name, Tail};
+use crate::entry::{Content, Entry, Moves, Name, Span, Tail};
 use crate::table::Table;
 
 // How many bytes of a place lie in the buffer.
-fn clipped(at: u32, length: u32) -> usize
-    ensures { result ≡ min length (4096 - at) }
+fn clipped(span: Span) -> usize
+    ensures { result ≡ clipped span }
 {
-    (length as usize).min(BUFFER.saturating_sub(at as usize))
+    (span.length as usize).min(BUFFER.saturating_sub(span.at as usize))
 }
 
 // How many bytes a name has.
 fn name_size(name: Option<Name>) -> usize
-    ensures long { (b : List ℕ) → length b ≡ 4096 → result ≡ name_long (option_map (name_of b) name) }
+    ensures size { result ≡ name_size name }
     ensures small { result ≤ 4096 }
 {
-    match name {
-        Some(name) => clipped(name.at, name.length),
-        None => 0,
-    }
+    name.map_or(0, |name| clipped(name.span))
 }
 
 // How many bytes the content of an entry takes.
 fn content_size(content: Option<Content>) -> usize
-    ensures long { (b : List ℕ) → length b ≡ 4096 → result ≡ content_long (option_map (content_of b) content) }
+    ensures size { result ≡ content_size content }
     ensures small { result ≤ 4096 }
 {
-    let Some(content) = content else {
-        return 0;
-    };
     match content {
-        Content::Inline { at, length } => clipped(at, length),
-        Content::Pair { .. } | Content::SkipList { .. } => 8,
+        Some(Content::Inline(span)) => clipped(span),
+        Some(Content::Pair(_) | Content::SkipList { .. }) => 8,
+        None => 0,
     }
 }
 
 // How many bytes an entry takes, written as one commit: two tags and their data.
 fn entry_size(entry: Entry) -> usize
-    ensures long { (b : List ℕ) → length b ≡ 4096 → result ≡ 8 + name_long (slot_of b entry).name + content_long (slot_of b entry).content }
+    ensures size { result ≡ entry_size entry }
     ensures small { result ≤ 8200 }
 {
     8 + name_size(entry.name) + content_size(entry.content)
@@ -64,20 +60,17 @@ impl PairReader {
 
     // How many entries there are.
     pub fn count(&self) -> usize
-        ensures { result ≡ length (state_in self.now).entries }
+        ensures count { result ≡ length (state_in self.now).entries }
+        ensures few { result ≤ 2048 }
     {
-        self.table.count
+        self.table.entries.len()
     }
 
     // The entry with this id, if there is one.
     pub fn entry(&self, id: usize) -> Option<Entry>
         ensures { option_map (slot_of self.now.block) result ≡ slice_get (state_in self.now).entries id }
     {
-        if id < self.table.count {
-            Some(self.table.slots[id])
-        } else {
-            None
-        }
+        self.table.entries.get(id).copied()
     }
 
     // The tail, if there is one.
@@ -95,22 +88,21 @@ impl PairReader {
     }
 
     // The bytes of a place in the buffer.
-    pub fn bytes(&self, at: u32, length: u32) -> &[u8]
-        ensures { result.now ≡ part self.now.block at length }
+    pub fn bytes(&self, span: Span) -> &[u8]
+        ensures { result.now ≡ part self.now.block span.at span.length }
     {
-        let all: &[u8] = &self.block;
-        let from = (at as usize).min(BUFFER);
-        &all[from..from + clipped(at, length)]
+        let from = (span.at as usize).min(BUFFER);
+        &self.block[from..from + clipped(span)]
     }
 
     // How many bytes the entries take, written as one commit.
     pub fn size(&self) -> usize
         ensures { result ≡ size_of (state_in self.now).entries }
     {
-        let mut total = 0;
-        for id in 0..self.table.count {
-            total += entry_size(self.table.slots[id]);
-        }
-        total
+        self.table
+            .entries
+            .iter()
+            .map(|entry| entry_size(*entry))
+            .sum()
     }
 }

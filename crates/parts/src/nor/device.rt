@@ -5,7 +5,7 @@ ghost use Rattle.flash.specs.Device.{Answers, PowersUp};
 ghost use Rattle.flash.specs.Write.{program, erase};
 ghost use Rattle.parts.specs.Chip.{Writes, powered_up};
 ghost use Rattle.parts.specs.Nor.{state_of};
-ghost use Rattle.parts.specs.Cards.{card_shaped};
+ghost use Rattle.parts.specs.Held.{held_shaped};
 
 use super::NorChip;
 use flash::{ReadableDevice, Refusal, WritableDevice};
@@ -13,19 +13,18 @@ use flash::{ReadableDevice, Refusal, WritableDevice};
 impl ReadableDevice for NorChip {
     ghost meaning = { λ x. (state_of x).card };
 
-    ghost shaped = { λ x. card_shaped _ _ _ _ _ x.cells.whole x.marked };
+    ghost shaped = { λ x. held_shaped x.cells _ _ x.marked };
 
     fn block_size(&self) -> u32 {
-        self.cells.size()
+        self.cells.geometry.block_size
     }
 
     fn block_count(&self) -> u32 {
-        self.cells.count()
+        self.cells.geometry.block_count
     }
 
     fn is_good(&self, block: u32) -> bool {
-        let block = block as usize;
-        block < self.good.len() && self.good[block]
+        self.good.get(block as usize).copied().unwrap_or(false)
     }
 
     fn is_dark(&self) -> bool {
@@ -66,7 +65,7 @@ impl WritableDevice for NorChip {
             return Err(Refusal::Dark);
         }
         self.cells.check_erase(self.is_good(block), block)?;
-        let size = self.cells.size();
+        let size = self.cells.geometry.block_size;
         if self.power.spend() {
             self.cells.erase_first(block, size / 2);
             return Err(Refusal::Dark);

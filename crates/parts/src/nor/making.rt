@@ -1,6 +1,6 @@
 // Making a NOR chip, and choosing the write in which its power goes.
 // A chip is made with a list of its bad blocks; nothing that it is asked later makes a block bad or good.
-ghost use Rattle.std.specs.Prelude.{◌≡◌, true, length, replicate, IfOk};
+ghost use Rattle.std.specs.Prelude.{◌≡◌, IfOk};
 ghost use Rattle.parts.specs.Cells.{fresh, Makes};
 ghost use Rattle.parts.specs.Chip.{chip, good_but};
 ghost use Rattle.parts.specs.Nor.{state_of};
@@ -11,26 +11,11 @@ use crate::power::Power;
 use crate::unmade::Unmade;
 use std::alloc::{AllocError, Global};
 
-// Marks the listed blocks as bad; numbers past the last block name none.
-fn mark_bad(good: &mut [bool], bad: &[u32])
-    requires { good.old ≡ replicate (length good.old) true }
-    ensures { good.new ≡ good_but (length good.old) bad.now }
-{
-    for block in bad {
-        let block = *block as usize;
-        if block < good.len() {
-            good[block] = false;
-        }
-    }
-}
-
-// The marks of blocks that are all good but for those listed.
+// The marks of blocks that are all good but for those listed; numbers past the last block name none.
 fn marks(heap: Global, count: u32, bad: &[u32]) -> Result<Vec<bool>, AllocError>
     ensures { IfOk result (λ v. v.items ≡ good_but count bad.now) }
 {
-    let mut good = Vec::from_elem(heap, true, count as usize)?;
-    mark_bad(&mut good, bad);
-    Ok(good)
+    (0..count).map(|block| !bad.contains(&block)).collect(heap)
 }
 
 impl NorChip {
@@ -45,17 +30,12 @@ impl NorChip {
         ensures { Makes block_size block_count (λ x. state_of x ≡ chip (fresh block_size block_count (good_but block_count bad.now)) 0) result }
     {
         let cells = Cells::new(heap, block_size, block_count)?;
-        match marks(heap, block_count, bad) {
-            Ok(good) => Ok(NorChip {
-                cells,
-                good,
-                power: Power {
-                    dark: false,
-                    left: 0,
-                },
-            }),
-            Err(_) => Err(Unmade::Memory),
-        }
+        let good = marks(heap, block_count, bad)?;
+        Ok(NorChip {
+            cells,
+            good,
+            power: Power::default(),
+        })
     }
 
     // From now on the power goes in that write which is not refused, counted from 1; 0: it stays.

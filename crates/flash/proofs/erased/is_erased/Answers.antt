@@ -1,13 +1,13 @@
--- One byte more, the first byte that is not 0xff, and the end.
-use Rattle.std.proofs.Common.{sym, ◌∙◌}
-use Rattle.flash.proofs.Blank.{erased_more, erased_stops, erased_end}
+-- The chain asks whether all the bytes are 0xff.
+use Rattle.std.specs.Prelude.{◌==◌}
+use Rattle.std.proofs.Common.{rules, sym, ◌∙◌}
+use Rattle.std.proofs.lemmas.Iterator.{YieldsList-from_slice}
+use Rattle.std.proofs.lemmas.Iterator.Search.{all_from_yields_List}
+use borrow.Author.Tests.{tests}
+use Rattle.flash.proofs.Blank.{is_erased_as_all}
 use Rattle.flash.proofs.erased.is_erased.Goals as goal
 
-pub loop-byte-preserved : goal.loop-byte-preserved
-loop-byte-preserved c = sym (erased_more _ _ c.loop-byte-test.true c.if-byte.false) ∙ c.loop-byte.invariant
-
-pub returns-then-byte : goal.returns-then-byte
-returns-then-byte c = sym (erased_stops _ _ c.loop-byte-test.true c.if-byte.true) ∙ c.loop-byte.invariant
-
 pub returns : goal.returns
-returns c = sym (erased_end _ _ c.loop-byte-test.false) ∙ c.loop-byte.invariant
+returns c =
+    all_from_yields_List (λ x. x == 0xff) _ _ c.all.result c.all.ensures.ran (YieldsList-from_slice c.args.bytes.now cc) (λ x b q k. search (rules, tests))
+    ∙ sym (is_erased_as_all c.args.bytes.now)

@@ -1,13 +1,13 @@
--- The units up to `done` were programmed.
-use Rattle.std.proofs.Common.{◌≡◌, ◌-◌, ◌/◌, ◌%◌, ◌≤◌, length}
-use Rattle.flash.specs.Runs.{Finished, units}
+-- The units that were taken so far were programmed.
+use Rattle.std.proofs.Common.{◌≡◌}
+use Rattle.std.specs.Iterator.Adapters.{enumerate_source, enumerate_count}
+use Rattle.std.specs.Slice.Iter.{chunks_exact_rest, chunks_exact_size}
+use Rattle.flash.proofs.Filling.{UnitsDone}
 use Rattle.flash.proofs.writing.program_each.Given as goal
 
-abbrev pub invariant-loop-done : goal.invariant-loop-done
-invariant-loop-done g l =
+abbrev pub invariant-loop-index : goal.invariant-loop-index
+invariant-loop-index g l =
     let m = g.D.ReadableDevice.meaning in
     let n = g.D.WritableDevice.history in
-    (l.done ≤ length l.content) × (l.done % 16 ≡ 0) × Finished (units l.block l.at (l.done / 16) l.content) (m l.initial.device) (m l.device) (n l.initial.device) (n l.device)
-
-abbrev pub decreases-loop-done : goal.decreases-loop-done
-decreases-loop-done g l = length l.content - l.done
+    let units = enumerate_source l.index-iterator in
+    (chunks_exact_size units ≡ 16) × UnitsDone l.block l.at (enumerate_count l.index-iterator) l.content (chunks_exact_rest units) (m l.initial.device) (m l.device) (n l.initial.device) (n l.device)

@@ -1,25 +1,17 @@
 -- Refused before the first write, or what the loop did.
-use Rattle.std.proofs.Common.{sym, refl, inl}
-use Rattle.flash.proofs.Events.{extends_none}
 use Rattle.flash.proofs.Filling.{fits_from, free_fits, tried_from_runs, pasted_from_runs, takes_free, unfit_settled}
 use Rattle.flash.proofs.writing.program_units.Goals as goal
 
-pub returns-in-Some : goal.returns-in-Some
-returns-in-Some g c =
-    let u = sym c.in-Some.ensures.reason in
-    record {
-      asked = inl (u, record { is = refl; adds = extends_none _ });
-      holds = tt;
-      free = λ l h. elim (unfit_settled _ _ _ (free_fits _ c.args.block _ _ l h) u) [ ];
-    }
+pub returns-in_err-check_fits-clause-free : goal.returns-in_err-check_fits-clause-free
+returns-in_err-check_fits-clause-free g c = λ l h. elim (unfit_settled _ _ _ (free_fits _ c.args.block _ _ l h) c.in_err-check_fits.ensures.why) [ ]
 
 pub program_each-requires : goal.program_each-requires
 program_each-requires g c =
-    let u = fits_from _ c.args.at _ (sym c.in_default.ensures.reason) in record { content_len = u.1; content_bound = c.in_default.ensures.below refl }
+    let u = fits_from _ c.args.at _ c.in_ok-check_fits.ensures.why in record { content_len = u.1; content_bound = c.in_ok-check_fits.ensures.below }
 
 pub returns : goal.returns
 returns g c =
-    let none = sym c.in_default.ensures.reason in
+    let none = c.in_ok-check_fits.ensures.why in
     let u = fits_from _ c.args.at _ none in
     let shaped = g.met.D.ReadableDevice.shaped c.args.device.now in
     let ran = c.program_each.ensures in

@@ -1,23 +1,10 @@
--- One byte more of what is left.
-use Rattle.std.proofs.Common.{◌≡◌, ◌+◌, ◌<◌, ◌≤◌, length, get_or, drop, arith}
-use Rattle.std.proofs.lemmas.List.{at_drop_more, at_drop_all}
-use Rattle.metalog.specs.Crc.{crc_byte, crc_of}
+-- The fold over the bytes is the checksum.
+use Rattle.std.proofs.Common.{◌∙◌, rules, tests}
+use Rattle.std.proofs.lemmas.Iterator.{YieldsList-from_slice}
+use Rattle.std.proofs.lemmas.Iterator.Consumers.{fold_from_yields_List}
+use Rattle.metalog.specs.Crc.{crc_byte}
+use Rattle.metalog.proofs.Words.{crc_fold}
 use Rattle.metalog.proofs.checksum.crc.Goals as goal
 
-pub loop-byte-preserved : goal.loop-byte-preserved
-loop-byte-preserved c =
-    let bs = c.args.bytes.now in
-    let i = c.loop-byte.byte-index in
-    let sum = c.loop-byte.sum in
-    let h : i < length bs = omega arith in
-    let e : crc_of sum (drop i bs) ≡ crc_of (crc_byte sum (get_or bs i 0)) (drop (i + 1) bs) = at_drop_more (crc_of sum) bs i 0 h in
-    cc
-
 pub returns : goal.returns
-returns c =
-    let bs = c.args.bytes.now in
-    let i = c.loop-byte.byte-index in
-    let sum = c.loop-byte.sum in
-    let h : length bs ≤ i = omega arith in
-    let e : crc_of sum (drop i bs) ≡ sum = at_drop_all (crc_of sum) bs i h in
-    cc
+returns c = fold_from_yields_List _ crc_byte _ _ c.fold.ensures.ran (YieldsList-from_slice c.args.bytes.now cc) (λ a x b q k. search (rules, tests)) ∙ crc_fold c.args.sum c.args.bytes.now

@@ -10,14 +10,6 @@ use Rattle.skiplist.proofs.layout.first_place.Goals as goal
 pub returns-then-block-eq0 : goal.returns-then-block-eq0
 returns-then-block-eq0 c = begins_zero (bytes_of c.args.size) c.args.block c.if-block-eq0.true
 
-pub overflow_mul-result-2 : goal.overflow_mul-result-2
-overflow_mul-result-2 c = omega (arith, ones-le 12 (c.args.block - 1) (omega arith))
-
-pub overflow_add-result-2 : goal.overflow_add-result-2
-overflow_add-result-2 c =
-    let product : c.content.result * c.args.block ≤ 4088 * 4095 = mul-le-mul {n₂ = 4088} {m₂ = 4095} c.content.ensures.most (omega arith) in
-    omega (arith, ones-le 12 (c.args.block - 1) (omega arith))
-
 pub returns : goal.returns
 returns c =
     begins_later (bytes_of c.args.size) c.content.result c.args.block

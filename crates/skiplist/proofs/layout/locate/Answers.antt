@@ -13,9 +13,6 @@ before_le c =
     formula_before_le (bytes_of c.args.size) c.args.place c.content.result c.block_of-block.result
     (bytes_least c.args.size) (omega arith) c.content.ensures.is c.block_of-block.ensures.is
 
-pub overflow_mul-byte-2 : goal.overflow_mul-byte-2
-overflow_mul-byte-2 c = omega (arith, before_le c)
-
 pub overflow_sub-byte-2 : goal.overflow_sub-byte-2
 overflow_sub-byte-2 c = omega (arith, before_le c)
 

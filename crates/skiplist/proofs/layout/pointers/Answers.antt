@@ -4,8 +4,5 @@ use Rattle.std.proofs.Common.{arith, rules}
 use Rattle.skiplist.proofs.Words.{words_none, words_later}
 use Rattle.skiplist.proofs.layout.pointers.Goals as goal
 
-pub returns-then-index-eq0 : goal.returns-then-index-eq0
-returns-then-index-eq0 c = record { is = search rules; words = words_none c.args.index c.if-index-eq0.true }
-
 pub returns-else-index-eq0 : goal.returns-else-index-eq0
 returns-else-index-eq0 c = record { is = search rules; words = words_later c.args.index c.if-index-eq0.false (omega arith) }

@@ -4,4 +4,4 @@ use Rattle.flash.specs.Images.{length_blocks}
 use Rattle.flash.proofs.image.CardImageReadableDevice.block_count.Goals as goal
 
 pub returns : goal.returns
-returns g c = c.count.ensures ∙ sym (length_blocks _ _ _)
+returns g c = c.args.self.now.fits ∙ sym (length_blocks _ _ _)

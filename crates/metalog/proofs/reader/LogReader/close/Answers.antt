@@ -3,9 +3,9 @@ use Rattle.std.proofs.Common.{rules}
 use Rattle.metalog.specs.Log.{closing}
 use Rattle.metalog.proofs.reader.LogReader.close.Goals as goal
 
-pub returns-then-not-closes_commit : goal.returns-then-not-closes_commit
+pub returns-then-not-closes : goal.returns-then-not-closes
 unfolding closing
-returns-then-not-closes_commit c = search rules
+returns-then-not-closes c = search rules
 
 pub returns : goal.returns
 unfolding closing

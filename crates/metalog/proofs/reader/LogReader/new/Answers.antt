@@ -3,6 +3,6 @@ use Rattle.std.proofs.Common.{rules}
 use Rattle.metalog.specs.Log.{start}
 use Rattle.metalog.proofs.reader.LogReader.new.Goals as goal
 
-pub returns : goal.returns
+pub returns-clause-cursor : goal.returns-clause-cursor
 unfolding start
-returns c = search rules
+returns-clause-cursor c = search rules

@@ -1,7 +1,0 @@
--- The words so far are right.
-use Rattle.std.proofs.Common.{◌≡◌, true}
-use Rattle.volume.specs.Files.{right_words}
-use Rattle.files.proofs.naming.check_block.Given as goal
-
-abbrev pub invariant-loop-word : goal.invariant-loop-word
-invariant-loop-word g l = right_words (g.D.ReadableDevice.meaning l.device) l.blocks l.index l.word ≡ true

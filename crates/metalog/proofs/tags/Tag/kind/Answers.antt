@@ -1,7 +1,0 @@
--- A mask takes the remainder.
-use Rattle.std.proofs.Common.{◌/◌, ◌^◌}
-use Rattle.std.proofs.lemmas.Nat.{and_mask}
-use Rattle.metalog.proofs.tags.Tag.kind.Goals as goal
-
-pub returns : goal.returns
-returns c = and_mask (c.args.self.word / 2 ^ 20) 11
