@@ -23,7 +23,8 @@ impl Trail {
     }
 }
 
-// What is wrong with a file of so many bytes whose last block is `head`; if nothing is, its blocks are in use from now on.
+// What is wrong with a file of so many bytes whose last block is `head`; if nothing is, its blocks are in use from now on. A struct
+// for the two numbers would only be made of an entry's, and taken apart here.
 pub fn check_file<D: ReadableDevice>(
     device: &D,
     used: &mut BlockSet,

@@ -7,7 +7,8 @@ use flash::ReadableDevice;
 use volume::{Fault, What};
 
 // Copies bytes of a file of so many bytes, whose last block is `head`, from a place on into `out`; the answer is how many. Where
-// nothing is wrong with the file, they are as many as there is room for, or as the file has.
+// nothing is wrong with the file, they are as many as there is room for, or as the file has. A struct for the two numbers would only
+// be made of an entry's, and taken apart here.
 pub fn read_file<D: ReadableDevice>(
     device: &D,
     head: u32,

@@ -12,6 +12,7 @@ impl<'a, D: ReadableDevice> File<'a, D> {
     pub(crate) fn seek(&self, to: u32) -> Result<u32, What>
         ensures { (bs : List ℕ) → FileAt (D.meaning self.now.device.now) bs self.now.head self.now.last → to ≤ self.now.last → result ≡ Ok (slice_index bs to) }
     {
+        // A `while` and no `for`: how far a step goes back, its word says.
         let mut block = self.head;
         let mut from = self.last;
         while let Some(word) = stride(from, to) {

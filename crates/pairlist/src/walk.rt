@@ -50,6 +50,7 @@ fn follow<D: ReadableDevice>(
     requires { Ready (D.meaning device.now) list.old used.old }
     ensures { Walks (D.meaning device.now) result list.new used.new }
 {
+    // A `loop` and no `for`: where the list ends is known when its last pair has been read.
     let mut pair = Blocks::ROOT;
     let mut dir = 0;
     let mut first = true;

@@ -1,6 +1,5 @@
 // The cells of a part: all blocks in one run of bytes. What both parts do with them is here, once.
 // The checks take whether the block is good, since only the part knows that; they speak of a card that is not dark.
-// Each part hands a device's questions on in one line each: a trait over both parts would need every one of these lines too.
 ghost use Rattle.std.specs.Prelude.{◌≡◌, ◌+◌, ◌*◌, ◌%◌, ◌<◌, ◌≤◌, Bool, false, ◌&&◌, List, [], length, replicate, OnOk, ◌==◌, nat_le, nat_lt, slice_index_or};
 ghost use Rattle.std.proofs.Math.Seq.{paste};
 

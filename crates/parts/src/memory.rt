@@ -1,5 +1,6 @@
 // A board that keeps its card in memory: all blocks are good, and the power never goes.
-// Its bytes, one block behind the other, are the image of its card.
+// Its bytes, one block behind the other, are the image of its card. It hands each question on in one line, as the chip does: a
+// trait over both would need every one of these lines too.
 ghost use Rattle.std.specs.Prelude.{◌≡◌, true, replicate};
 ghost use Rattle.std.proofs.lemmas.List.{length-replicate};
 ghost use Rattle.parts.specs.Cells.{fresh, Makes};

@@ -1,5 +1,6 @@
 // A NOR chip as a device. Beside the promise that every device makes, its own say exactly what each request does:
-// which writes count, in which one the power goes, and what that one leaves.
+// which writes count, in which one the power goes, and what that one leaves. It hands each question on in one line, as the board
+// does: a trait over both would need every one of these lines too.
 ghost use Rattle.std.specs.Prelude.{◌≡◌};
 ghost use Rattle.flash.specs.Device.{Answers, PowersUp};
 ghost use Rattle.flash.specs.Write.{program, erase};
