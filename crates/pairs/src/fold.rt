@@ -15,16 +15,20 @@ pub(crate) fn fold(block: &[u8], commits: usize, table: &mut Table) -> Result<()
     ensures inside { IfErr result (λ at. at < 4096) }
 {
     table.clear();
+    if commits == 0 {
+        return Ok(());
+    }
     // The commits are counted down: a tag counts while a commit is still to end behind it, and `left` are still to end.
     let mut left = commits;
     for item in LogReader::new(block) {
-        if left == 0 {
-            break;
-        }
         match item {
             Item::Held(entry) => apply(table, entry).map_err(|_| entry.offset)?,
             Item::Ended(end) if end.id as usize != NO_ID => return Err(end.tag),
             Item::Ended(_) => left -= 1,
+        }
+        // Nothing is asked of the reader behind the last finished commit.
+        if left == 0 {
+            break;
         }
     }
     Ok(())
