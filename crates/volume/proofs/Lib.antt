@@ -7,6 +7,7 @@ pub mod Computed
 pub mod Aparts
 pub mod ServesOnce
 pub mod Orders
+pub mod Tails
 pub mod OnePath
 pub mod Listing
 pub mod Rows

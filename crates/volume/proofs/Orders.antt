@@ -1,9 +1,6 @@
 -- The order of names is strict: no name is before itself, and a name before another is before all that come behind it.
-use Rattle.std.proofs.Common.{Some, ◌≡◌, ℕ, ◌<◌, true, false, ◌⊎◌, [], ◌∷◌, sym, refl, ap, ◌∙◌, inl, inr, arith}
+use Rattle.std.proofs.Common.{◌≡◌, ℕ, ◌<◌, true, false, ◌⊎◌, [], ◌∷◌, sym, refl, ap, ◌∙◌, inl, inr, arith}
 use Prim.Native.Nat.{compare, Ordering}
-use Rattle.std.specs.Cmp.Lexicographic.{slice_partial_cmp}
-use Rattle.std.specs.Ordering.{nat_cmp, is_lt, is_some_and, partial_lt, partial_ordering_then}
-use Rattle.std.proofs.lemmas.Bool.{lt-ltb, le-ltb, eq-eqb, ne_eqb}
 use native.Mathlib.Omega.{compare-lt, compare-eq, compare-gt}
 use Rattle.volume.specs.Tree.{Name, choose, order, before, named}
 
@@ -120,16 +117,3 @@ before_order a b e = by (order a b) e
 -- a name before one is before those behind it
 pub before_trans : (a b d : Name) → before a b ≡ true → before b d ≡ true → before a d ≡ true
 before_trans a b d p q = ap (λ o. choose o true false false) (order_trans a b d (before_order a b p) (before_order b d q))
-
--- the order of slices, by which the code compares, says which name comes first
-pub before_is : (a b : Name) → partial_lt (slice_partial_cmp (λ x y. Some (nat_cmp x y))) a b ≡ before a b
-unfolding order
-before_is [] [] = refl
-before_is [] (y ∷ ys) = refl
-before_is (x ∷ xs) [] = refl
-before_is (x ∷ xs) (y ∷ ys) = by (compare x y) refl (before_is xs ys)
-  where
-    by : (o : Ordering) → compare x y ≡ o → partial_lt (slice_partial_cmp (λ x y. Some (nat_cmp x y))) xs ys ≡ before xs ys → is_some_and is_lt (partial_ordering_then (Some (nat_cmp x y)) (slice_partial_cmp (λ x y. Some (nat_cmp x y)) xs ys)) ≡ choose (choose o Ordering.lt (order xs ys) Ordering.gt) true false false
-    by Ordering.lt e rest = simp (lt-ltb x y (compare-lt x y e))
-    by Ordering.eq e rest = let is = compare-eq x y e in simp (le-ltb x y (omega arith), eq-eqb x y is) rest
-    by Ordering.gt e rest = let is = compare-gt x y e in simp (le-ltb x y (omega arith), ne_eqb x y (λ h. omega arith))

@@ -10,5 +10,5 @@ mod size;
 pub use fault::{Fault, Layer, What};
 pub use laws::laws_hold;
 pub use names::{NAME_LIMIT, is_name, precedes};
-pub use paths::{DEPTH_LIMIT, PathNames, parse_path};
+pub use paths::{DEPTH_LIMIT, PathNames, Place, parse_path};
 pub use size::card_size;
