@@ -49,7 +49,13 @@ impl BlockSet {
     pub fn count(&self) -> u32
         ensures { result ≡ counted capacity (holds self.now) }
     {
-        (0..CAPACITY).filter(|block| self.contains(*block)).count() as u32
+        let mut held = 0;
+        for block in 0..CAPACITY {
+            if self.contains(block) {
+                held += 1;
+            }
+        }
+        held
     }
 
     // The bits themselves: bit b % 8 of byte b / 8 is that of block b.

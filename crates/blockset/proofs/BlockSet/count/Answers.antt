@@ -1,31 +1,32 @@
--- The filter passes the blocks that the set holds.
-use Rattle.std.proofs.Common.{◌≡◌, ℕ, zero, suc, ◌+◌, ◌≤◌, Bool, cond, filter, get_or, take, length, sym, refl, ap, ◌∙◌, add-one, zero-add, arith, rules}
-use borrow.Author.Tests.{tests}
-use Rattle.std.specs.List.{range_with_len}
-use Rattle.std.proofs.lemmas.Iterator.{YieldsList-from_range}
-use Rattle.std.proofs.lemmas.Iterator.Consumers.{YieldsList-from_filter, count_from_yields_List}
-use Rattle.std.proofs.lemmas.List.{take_all}
-use Rattle.std.proofs.lemmas.List.Filters.{length-filter_more}
-use Rattle.std.proofs.lemmas.List.FromFn.{get_or-range_with_len, length-range_with_len}
-use Rattle.blockset.specs.Holds.{holds, counted}
+-- One block more is counted, or not, by whether the set holds it.
+use Rattle.std.proofs.Common.{◌≡◌, ℕ, ◌+◌, Bool, true, false, cond, sym, refl, ap, ◌∙◌, add-one, arith}
+use Rattle.blockset.specs.Holds.{capacity, holds, counted}
 use Rattle.blockset.proofs.BlockSet.count.Goals as goal
+use Rattle.blockset.proofs.BlockSet.count.Goals.{then-contains, else-contains}
 
--- the first n of m numbers that pass a test are those that are counted
-passed : (f : ℕ → Bool) (n m : ℕ) → n ≤ m → length (filter f (take n (range_with_len 0 m))) ≡ counted n f
+-- nothing is counted below 0
+none : (f : ℕ → Bool) → 0 ≡ counted 0 f
 unfolding counted
-passed f zero m h = refl
-passed f (suc n) m h =
-    let here : n + 1 ≡ suc n = add-one n in
-    ap (λ (k : ℕ). length (filter f (take k (range_with_len 0 m)))) (sym here)
-    ∙ length-filter_more f (range_with_len 0 m) n 0 (omega (arith, length-range_with_len 0 m))
-    ∙ ap (λ (k : ℕ). k + cond (f (get_or (range_with_len 0 m) n 0)) 1 0) (passed f n m (omega arith))
-    ∙ ap (λ (k : ℕ). counted n f + cond (f k) 1 0) (get_or-range_with_len 0 m n 0 (omega arith) ∙ zero-add n)
+none f = refl
 
-all : (f : ℕ → Bool) (m : ℕ) → length (filter f (range_with_len 0 m)) ≡ counted m f
-all f m = ap (λ xs. length (filter f xs)) (sym (take_all m (range_with_len 0 m) (omega (arith, length-range_with_len 0 m)))) ∙ passed f m m (omega arith)
+-- one number more, by its test
+more : (f : ℕ → Bool) (i : ℕ) (t : Bool) → t ≡ f i → counted (i + 1) f ≡ counted i f + cond t 1 0
+unfolding counted
+more f i t e = ap (λ (n : ℕ). counted n f) (add-one i) ∙ ap (λ u. counted i f + cond u 1 0) (sym e)
+
+pub loop-block-init : goal.loop-block-init
+loop-block-init c = (none (holds c.args.self.now), omega arith)
+
+pub loop-block-preserved : goal.loop-block-preserved
+loop-block-preserved c =
+    let f : ℕ → Bool = holds c.args.self.now in
+    let i = c.loop-block.block in
+    elim c.if-contains.branch [
+      | then-contains w ↦ let e = more f i true (sym w.if-contains.true ∙ c.contains.ensures) in (omega (arith, e, w.held-is, c.loop-block.invariant.0), omega (arith, w.held-is))
+      | else-contains w ↦ let e = more f i false (sym w.if-contains.false ∙ c.contains.ensures) in (omega (arith, e, w.held-is, c.loop-block.invariant.0), omega (arith, w.held-is))
+    ]
 
 pub returns : goal.returns
 returns c =
-    let f : ℕ → Bool = holds c.args.self.now in
-    count_from_yields_List c.filter.result c.count.result c.count.ensures.ran (YieldsList-from_filter _ f (YieldsList-from_range 0 4096 4096 c.filter.ensures.source refl) c.filter.ensures.closure (λ x b q k. search (rules, tests)))
-    ∙ all f 4096
+    let all : c.loop-block.block ≡ capacity = omega arith in
+    c.loop-block.invariant.0 ∙ ap (λ (n : ℕ). counted n (holds c.args.self.now)) all
