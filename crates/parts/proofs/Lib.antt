@@ -2,3 +2,4 @@
 pub mod Checked
 pub mod Replaced
 pub mod Halves
+pub mod Marks

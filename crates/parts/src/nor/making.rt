@@ -1,6 +1,6 @@
 // Making a NOR chip, and choosing the write in which its power goes.
 // A chip is made with a list of its bad blocks; nothing that it is asked later makes a block bad or good.
-ghost use Rattle.std.specs.Prelude.{◌≡◌, IfOk};
+ghost use Rattle.std.specs.Prelude.{◌≡◌, true, length, replicate, IfOk};
 ghost use Rattle.parts.specs.Cells.{fresh, Makes};
 ghost use Rattle.parts.specs.Chip.{chip, good_but};
 ghost use Rattle.parts.specs.Nor.{state_of};
@@ -11,11 +11,26 @@ use crate::power::Power;
 use crate::unmade::Unmade;
 use std::alloc::{AllocError, Global};
 
-// The marks of blocks that are all good but for those listed; numbers past the last block name none.
+// Marks the listed blocks as bad; numbers past the last block name none. One pass over the list: it may be of any length.
+fn mark_bad(good: &mut [bool], bad: &[u32])
+    requires { good.old ≡ replicate (length good.old) true }
+    ensures { good.new ≡ good_but (length good.old) bad.now }
+{
+    for block in bad {
+        let block = *block as usize;
+        if block < good.len() {
+            good[block] = false;
+        }
+    }
+}
+
+// The marks of blocks that are all good but for those listed.
 fn marks(heap: Global, count: u32, bad: &[u32]) -> Result<Vec<bool>, AllocError>
     ensures { IfOk result (λ v. v.items ≡ good_but count bad.now) }
 {
-    (0..count).map(|block| !bad.contains(&block)).collect(heap)
+    let mut good = Vec::from_elem(heap, true, count as usize)?;
+    mark_bad(&mut good, bad);
+    Ok(good)
 }
 
 impl NorChip {
