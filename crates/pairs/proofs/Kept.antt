@@ -1,17 +1,17 @@
 -- What a reader of pairs answers of what it holds.
-use Rattle.std.proofs.Common.{◌≡◌, ℕ, ◌-◌, ◌<◌, ◌≤◌, min, List, [], ◌∷◌, map, length, take, drop, Some, None, Option, sym, refl, ap, ◌∙◌, ⊎_elim, arith, length-drop, length-take}
+use Rattle.std.proofs.Common.{◌≡◌, ℕ, ◌+◌, ◌-◌, ◌<◌, ◌≤◌, min, List, [], ◌∷◌, ◌++◌, map, length, get_or, take, drop, Some, None, Option, sym, refl, ap, ◌∙◌, ⊎_elim, arith, length-drop, length-take}
 use Rattle.std.specs.List.{sum_by}
 use Rattle.std.specs.Option.{option_map}
-use Rattle.std.proofs.lemmas.List.{take_all, drop_all}
+use Rattle.std.proofs.lemmas.List.{take_all, drop_all, map_more}
 use Rattle.std.proofs.lemmas.List.Sums.{sum_by-cons}
 use Rattle.std.proofs.lemmas.Bool.{cases_lt}
 use Rattle.metalog.specs.Log.{part}
-use Rattle.volume.specs.State.{name_long, content_long, size_of}
+use Rattle.volume.specs.State.{Slot, name_long, content_long, size_of}
 use Rattle.pairs.specs.declared.entry.Entry.{Entry}
 use Rattle.pairs.specs.declared.entry.Name.{Name}
 use Rattle.pairs.specs.declared.entry.Content.{Content}
 use Rattle.pairs.specs.declared.entry.Content.TheVariants.{Pair, Inline, SkipList}
-use Rattle.pairs.specs.Slots.{slot_of, name_of, content_of}
+use Rattle.pairs.specs.Slots.{slot_of, name_of, content_of, none}
 use Rattle.pairs.specs.Sizes.{name_size, content_size, entry_size}
 
 -- a place of which only what lies in the list counts
@@ -52,3 +52,14 @@ module _ (b : List ℕ) (whole : length b ≡ 4096) where
   pub sizes-is : (es : List Entry) → sum_by entry_size es ≡ size_of (map (slot_of b) es)
   sizes-is [] = refl
   sizes-is (e ∷ es) = omega (arith, sum_by-cons entry_size e es, name_size-is e.name, content_size-is e.content, sizes-is es)
+
+-- one entry more
+pub size_push : (xs : List Slot) (x : Slot) → size_of (xs ++ x ∷ []) ≡ size_of xs + (8 + name_long x.name + content_long x.content)
+size_push [] x = omega arith
+size_push (y ∷ xs) x = omega (arith, size_push xs x)
+
+pub size_more : (b : List ℕ) → length b ≡ 4096 → (es : List Entry) (i n : ℕ) → i < length es → n ≡ entry_size (get_or es i none) → size_of (map (slot_of b) (take (i + 1) es)) ≡ size_of (map (slot_of b) (take i es)) + n
+size_more b whole es i n lt is =
+    let e = get_or es i none in
+    let long : n ≡ 8 + name_long (slot_of b e).name + content_long (slot_of b e).content = omega (arith, is, name_size-is b whole e.name, content_size-is b whole e.content) in
+    ap size_of (map_more (slot_of b) es i none lt) ∙ size_push (map (slot_of b) (take i es)) (slot_of b e) ∙ ap (λ k. size_of (map (slot_of b) (take i es)) + k) (sym long)

@@ -99,10 +99,10 @@ impl PairReader {
     pub fn size(&self) -> usize
         ensures { result ≡ size_of (state_in self.now).entries }
     {
-        self.table
-            .entries
-            .iter()
-            .map(|entry| entry_size(*entry))
-            .sum()
+        let mut total = 0;
+        for id in 0..self.table.entries.len() {
+            total += entry_size(self.table.entries[id]);
+        }
+        total
     }
 }
