@@ -1,20 +1,16 @@
--- A change inside one block of a run of bytes: it stays within the run, keeps the run's length, and replaces that block.
-use Rattle.std.proofs.Common.{◌≡◌, ℕ, ◌+◌, ◌*◌, ◌≤◌, List, length, set, Vec, vec_items, sym, ap, ◌∙◌, arith}
+-- A change inside one block of some cells: it stays within their run, keeps the run's length, and replaces that block.
+use Rattle.std.proofs.Common.{◌≡◌, ℕ, ◌+◌, ◌*◌, ◌≤◌, List, length, Vec, vec_items, sym, ap, ◌∙◌}
 use lib.Seq.{paste}
 use Rattle.std.specs.Vec.{with_items}
 use Rattle.std.proofs.lemmas.List.{with_items_is}
-use Rattle.std.proofs.lemmas.List.Edits.{length-paste}
 use Rattle.flash.specs.Image.{blocks_of}
-use Rattle.flash.specs.Images.{block_within, block_lies, blocks_pasted}
 use Rattle.parts.specs.Cells.{IsInside, Rewrites}
 use Rattle.parts.specs.declared.cells.Cells.{Cells}
+use Rattle.parts.proofs.RunReplaced as run
 
 -- n bytes from an offset of a block on lie within the run
 pub part_within : (x : Cells) (b at n : ℕ) → IsInside x.geometry b at n → b * x.geometry.block_size + at + n ≤ length (vec_items x.bytes)
-part_within x b at n h =
-    let whole = x.whole in
-    let end = h.1 in
-    omega (arith, block_within x.geometry.block_size x.geometry.block_count b h.0)
+part_within x b at n h = run.part_within x.geometry.block_size x.geometry.block_count b at n (length (vec_items x.bytes)) h.0 h.1 x.whole
 
 -- a run of the same length put back into its Vec is what the Vec then holds, and is as long as before
 pub refilled_whole : {Z : Type 0} (v : Vec ℕ Z) (ys : List ℕ) (n : ℕ) → length v.items ≡ n → length ys ≡ length v.items → length (with_items v ys).items ≡ n
@@ -25,15 +21,10 @@ pub replaced : (old new : Cells) (ys u : List ℕ) (b at m : ℕ) → new.geomet
 replaced old new ys u b at m cut refilled h k is =
     let size : ℕ = old.geometry.block_size in
     let count : ℕ = old.geometry.block_count in
-    let xs : List ℕ = vec_items old.bytes in
-    let whole : length xs ≡ count * size = old.whole in
-    let long : length ys ≡ length xs = ap length is ∙ length-paste xs (b * size + at) u m (omega (arith, part_within old b at m h)) k in
     record {
       same_geometry = cut;
       blocks =
           ap (λ g. blocks_of g.block_size g.block_count (vec_items new.bytes)) cut
           ∙ ap (λ v. blocks_of size count (vec_items v)) refilled
-          ∙ ap (blocks_of size count) (with_items_is old.bytes ys (long ∙ sym old.bytes.ok.0) ∙ is)
-          ∙ blocks_pasted size count xs b at u m h.0 h.1 (omega arith) k
-          ∙ ap (λ old. set (blocks_of size count xs) b (paste old at u m)) (sym (block_lies size count xs b h.0));
+          ∙ (run.replaced old.bytes ys u size count b at m old.whole h.0 h.1 k is).blocks;
     }

@@ -23,7 +23,7 @@ pub held_image : (x : Cells) (ys : List ℕ) (good : List Bool) (dark : Bool) �
 held_image x ys good dark is = card_image _ _ _ ys good dark x.whole is
 
 -- a block replaced in the cells is one replaced in their run
-replaces : (old : Cells) (b : ℕ) (f : List ℕ → List ℕ) (new : Cells) → Rewrites old b f new → Replaces old.geometry.block_size old.geometry.block_count (vec_items old.bytes) b f new.geometry.block_size new.geometry.block_count (vec_items new.bytes)
+pub replaces : (old : Cells) (b : ℕ) (f : List ℕ → List ℕ) (new : Cells) → Rewrites old b f new → Replaces old.geometry.block_size old.geometry.block_count (vec_items old.bytes) b f new.geometry.block_size new.geometry.block_count (vec_items new.bytes)
 replaces old b f new r =
     let size = ap (λ g. g.block_size) r.same_geometry in
     let count = ap (λ g. g.block_count) r.same_geometry in
